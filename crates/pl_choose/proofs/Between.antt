@@ -1,7 +1,8 @@
 -- A move that starts between two legal ones, and places the same, is legal.
 use Rattle.std.proofs.Common.{◌≡◌, ℕ, ◌+◌, ◌-◌, ◌≤◌, ◌<◌, true, false, List, [], ◌∷◌, map, filter, refl, sym, ap, ◌∙◌, arith, inr}
-use Rattle.std.specs.Prelude.{All, Option, Some, None, is_none}
-use Rattle.std.proofs.lemmas.Bool.{and_from, and_parts}
+use Rattle.std.specs.Prelude.{All, Option, Some, None, ◌&&◌, is_none, nat_le}
+use Rattle.std.specs.List.{list_all}
+use Rattle.std.proofs.lemmas.Bool.{and_from, and_parts, leb-true}
 use Rattle.std.proofs.lemmas.List.Elements.{All-nil, All-cons, All-head, All-tail}
 use Rattle.pl_plan.specs.declared.activity.Activity.{Activity}
 use Rattle.pl_plan.specs.declared.repair.RepairMove.{RepairMove}
@@ -14,7 +15,8 @@ use Rattle.pl_semantics.specs.Moves.{is_proper, is_under, moved, moved_with, ref
 use Rattle.pl_semantics.proofs.Refusing.{may, not_refused}
 use Rattle.pl_moves.specs.Runs.{start_of, goes_on}
 use Rattle.pl_bounds.proofs.Alike.{alike_shift, alike_add}
-use Rattle.pl_choose.specs.Stretches.{is_kin, IsStretch}
+use Rattle.pl_choose.specs.declared.stretch.Stretch.{Stretch}
+use Rattle.pl_choose.specs.Stretches.{is_kin, is_within, IsStretch}
 
 is_made : (s : PlanState) (m : RepairMove) → is_legal s m ≡ true → MayBeMade s m
 is_made s m legal = by (refusal_of s m) refl
@@ -119,3 +121,18 @@ reaches s of one other from to kin kin_too legal legal_too first last = λ m sam
     let a : start_of one ≤ start_of m = omega (arith, low, first) in
     let b : start_of m ≤ start_of other = omega (arith, high, last) in
     legal_between s of one m other (and_parts (is_proper s one) (goes_on of one) kin).1 (and_parts (is_proper s other) (goes_on of other) kin_too).1 legal legal_too same a b
+
+-- ---- what a stretch has
+
+pub has_legal : (s : PlanState) (r : Stretch) → IsStretch s r → (m : RepairMove) → is_within r m ≡ true → is_legal s m ≡ true
+has_legal s r stretch m has =
+    let parts = and_parts (goes_on r.of m) (nat_le r.from (start_of m) && nat_le (start_of m) r.to) has in
+    let ends = and_parts (nat_le r.from (start_of m)) (nat_le (start_of m) r.to) parts.1 in
+    stretch m parts.0 (leb-true r.from (start_of m) ends.0) (leb-true (start_of m) r.to ends.1)
+
+-- of these none is refused
+pub has_all_legal : (s : PlanState) (r : Stretch) → IsStretch s r → (ms : List RepairMove) → list_all (is_within r) ms ≡ true → filter (is_legal s) ms ≡ ms
+has_all_legal s r stretch [] all = refl
+has_all_legal s r stretch (m ∷ ms) all =
+    let parts = and_parts (is_within r m) (list_all (is_within r) ms) all in
+    rw (has_legal s r stretch m parts.0) (ap (λ (ys : List RepairMove). m ∷ ys) (has_all_legal s r stretch ms parts.1))

@@ -1,10 +1,11 @@
 -- What a search finds.
-use Rattle.std.proofs.Common.{◌≡◌, ℕ, ◌<◌, Bool, true, false, cond, List, [], ◌∷◌, ◌++◌, length, get_or, refl, sym, subst, ap, ◌∙◌, append_assoc, append-nil, arith}
+use Rattle.std.proofs.Common.{◌≡◌, ℕ, suc, ◌+◌, ◌<◌, Bool, true, false, cond, List, [], ◌∷◌, ◌++◌, length, get_or, take, drop, refl, sym, subst, ap, ◌∙◌, append_assoc, append-nil, arith}
 use Rattle.std.specs.Prelude.{find, filter, Contains, ◌||◌, ◌==◌, ◌%◌, not, is_some, Option, Some, None, slice_get}
 use Rattle.std.specs.List.{list_any}
 use Rattle.std.proofs.lemmas.Grind.{common_steps}
 use Rattle.std.proofs.lemmas.Bool.Decides.{nat_tests}
 use Rattle.std.proofs.lemmas.Option.{slice_get-get_or, slice_get_within, get_or_from_slice_get}
+use Rattle.std.proofs.lemmas.List.{take-append-drop}
 use Rattle.std.proofs.lemmas.List.Elements.{filter-append}
 
 pub get_contains : {X : Type 0} (xs : List X) (i : ℕ) (x : X) → slice_get xs i ≡ Some x → Contains xs x
@@ -74,6 +75,19 @@ pub filter_end : {X : Type 0} (p : X → Bool) (xs kept : List X) (w : List X) �
 filter_end {X = X} p xs kept w is e =
     let P : List X → Type 0 = λ zs. kept ++ filter p zs ≡ w in
     sym (append-nil kept) ∙ subst P is e
+
+-- so many of them at once
+pub run_step : {X : Type 0} (p : X → Bool) (xs kept more : List X) (n : ℕ) (w : List X) → more ≡ kept ++ filter p (take n xs) → kept ++ filter p xs ≡ w → more ++ filter p (drop n xs) ≡ w
+run_step {X = X} p xs kept more n w grown e =
+    rw (grown, append_assoc) (ap (λ (zs : List X). kept ++ zs) (sym (filter-append p (take n xs) (drop n xs)) ∙ ap (filter p) (take-append-drop n xs)) ∙ e)
+
+-- the first, and so many behind it
+pub run_kept : {X : Type 0} (p : X → Bool) (xs kept more all : List X) (x : X) (n : ℕ) → 0 < length xs → more ≡ kept ++ filter p (get_or xs 0 x ∷ []) → all ≡ more ++ filter p (take n (drop 1 xs)) → all ≡ kept ++ filter p (take (n + 1) xs)
+run_kept p [] kept more all x n some one rest = absurd (omega (arith, some))
+run_kept {X = X} p (y ∷ ys) kept more all x n some one rest =
+    let on : suc n ≡ n + 1 = omega arith in
+    rest ∙ ap (λ (zs : List X). zs ++ filter p (take n ys)) one ∙ append_assoc kept (filter p (y ∷ [])) (filter p (take n ys))
+    ∙ ap (λ (zs : List X). kept ++ zs) (sym (filter-append p (y ∷ []) (take n ys))) ∙ ap (λ (k : ℕ). kept ++ filter p (take k (y ∷ ys))) on
 
 -- ---- the first of those that pass
 

@@ -4,3 +4,5 @@ pub mod Aims
 pub mod Finding
 pub mod Proposing
 pub mod Between
+pub mod Instead
+pub mod Turning

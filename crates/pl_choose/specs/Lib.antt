@@ -7,3 +7,5 @@ pub mod Picked
 pub mod Started
 pub mod Aimed
 pub mod Stretches
+pub mod Stages
+pub mod Turns

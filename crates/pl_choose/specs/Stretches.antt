@@ -1,5 +1,5 @@
 -- Starts between which moves are legal.
-use Rattle.std.specs.Prelude.{◌≡◌, ◌≤◌, Bool, true, ◌&&◌}
+use Rattle.std.specs.Prelude.{◌≡◌, ◌≤◌, Bool, true, ◌&&◌, nat_le}
 use Rattle.pl_plan.specs.declared.repair.RepairMove.{RepairMove}
 use Rattle.pl_semantics.specs.declared.plan_state.PlanState.{PlanState}
 use Rattle.pl_semantics.specs.Legal.{is_legal}
@@ -10,6 +10,10 @@ use Rattle.pl_choose.specs.declared.stretch.Stretch.{Stretch}
 -- it makes sense, and places the same as the first one
 abbrev pub is_kin : PlanState → RepairMove → RepairMove → Bool
 is_kin s first m = is_proper s m && goes_on first m
+
+-- it places the same as the stretch's move, and starts at one of the stretch's starts
+abbrev pub is_within : Stretch → RepairMove → Bool
+is_within r m = goes_on r.of m && (nat_le r.from (start_of m) && nat_le (start_of m) r.to)
 
 -- what places the same as the stretch's move, and starts at one of these starts, is legal
 abbrev pub IsStretch : PlanState → Stretch → Type 0

@@ -1,10 +1,12 @@
 //! The move that leaves the fewest conflicts. It is looked for by trying moves on the board, so one that is the best may stay made.
-ghost use Rattle.std.specs.Prelude.{◌≡◌, ◌<◌, ◌≤◌, ◌∷◌, true, false, All, Some, IfOk, OnErr};
+ghost use Rattle.std.specs.Prelude.{◌≡◌, ◌<◌, ◌≤◌, ◌∷◌, true, false, All, map, Some, IfOk, OnErr};
 ghost use Rattle.pl_semantics.specs.Legal.{left_after};
+ghost use Rattle.pl_moves.specs.Changes.{IsOfActivities};
 ghost use Rattle.pl_choose.specs.Found.{IsAllowed};
 ghost use Rattle.pl_choose.specs.Picked.{IsPicked, IsFewest};
 ghost use Rattle.pl_choose.specs.Picks.{fewest};
 ghost use Rattle.pl_choose.specs.Started.{IsStarted};
+ghost use Rattle.pl_choose.specs.Stages.{IsStage, move_of};
 
 use crate::aiming::pick_by_aims;
 use crate::alone::{Alone, try_alone};
@@ -12,6 +14,8 @@ use crate::best::Best;
 use crate::bounded::{bounds_of, lowest_of};
 use crate::picked::Picked;
 use crate::purpose::{Purpose, enough_for};
+use crate::stages::{Stage, settle_one, stages_of, take_out};
+use crate::turns::pick_in_turn;
 use pl_board::Board;
 use pl_moves::least_left;
 use pl_plan::RepairMove;
@@ -119,6 +123,77 @@ fn pick_of_many(
 
 // The best of the first and the others. If few conflicts stand, the first likely leaves no more than each of the others does by what
 // is known of it alone.
+fn pick_by_bounds(
+    alloc: Global,
+    board: &mut Board,
+    first: &RepairMove,
+    rest: &[RepairMove],
+    purpose: Purpose,
+) -> Result<Picked, AllocError>
+    requires unspoiled { board.old.spoiled ≡ false }
+    requires next { board.old.state.next_id ≤ 3999999000 }
+    requires first { IsAllowed board.old.state first.now }
+    requires rest { All (IsAllowed board.old.state) rest.now }
+    ensures picked { IfOk result (λ p. IsPicked purpose (λ m. fewest board.old.state (first.now ∷ rest.now) ≡ Some m) board.old p board.new) }
+    ensures err { OnErr result (board.new.spoiled ≡ true) }
+{
+    let least = least_alone(board, rest);
+    if board.conflicts().len() <= least.saturating_add(1) {
+        return pick_of_few(alloc, board, first, rest, least, purpose);
+    }
+    pick_of_many(alloc, board, first, rest, purpose)
+}
+
+// The best of the first and the others, given what each changes: in turn, if they take out the same activities.
+fn pick_by_stages(
+    alloc: Global,
+    board: &mut Board,
+    first: &RepairMove,
+    rest: &[RepairMove],
+    stages: &[Stage],
+    purpose: Purpose,
+) -> Result<Picked, AllocError>
+    requires unspoiled { board.old.spoiled ≡ false }
+    requires next { board.old.state.next_id ≤ 3999999000 }
+    requires first { IsAllowed board.old.state first.now }
+    requires rest { All (IsAllowed board.old.state) rest.now }
+    requires stages { All (IsStage board.old.state) stages.now }
+    requires moves { map move_of stages.now ≡ first.now ∷ rest.now }
+    ensures picked { IfOk result (λ p. IsPicked purpose (λ m. fewest board.old.state (first.now ∷ rest.now) ≡ Some m) board.old p board.new) }
+    ensures err { OnErr result (board.new.spoiled ≡ true) }
+{
+    if take_out(&stages[0].trial.change.gone, stages) {
+        return pick_in_turn(alloc, board, stages, purpose);
+    }
+    pick_by_bounds(alloc, board, first, rest, purpose)
+}
+
+// The best of the first and the others, which choose an alternative of one activity, or take it out.
+fn pick_of_choice(
+    alloc: Global,
+    board: &mut Board,
+    first: &RepairMove,
+    rest: &[RepairMove],
+    purpose: Purpose,
+) -> Result<Picked, AllocError>
+    requires unspoiled { board.old.spoiled ≡ false }
+    requires next { board.old.state.next_id ≤ 3999999000 }
+    requires first { IsAllowed board.old.state first.now }
+    requires rest { All (IsAllowed board.old.state) rest.now }
+    requires activities { All IsOfActivities (first.now ∷ rest.now) }
+    ensures picked { IfOk result (λ p. IsPicked purpose (λ m. fewest board.old.state (first.now ∷ rest.now) ≡ Some m) board.old p board.new) }
+    ensures err { OnErr result (board.new.spoiled ≡ true) }
+{
+    match stages_of(alloc, board.state(), first, rest) {
+        Ok(stages) => pick_by_stages(alloc, board, first, rest, &stages, purpose),
+        Err(fault) => {
+            board.spoil();
+            Err(fault)
+        }
+    }
+}
+
+// The best of the first and the others.
 fn pick(
     alloc: Global,
     board: &mut Board,
@@ -136,11 +211,10 @@ fn pick(
     if rest.is_empty() {
         return Ok(Picked::Found(*first));
     }
-    let least = least_alone(board, rest);
-    if board.conflicts().len() <= least.saturating_add(1) {
-        return pick_of_few(alloc, board, first, rest, least, purpose);
+    if settle_one(first, rest) {
+        return pick_of_choice(alloc, board, first, rest, purpose);
     }
-    pick_of_many(alloc, board, first, rest, purpose)
+    pick_by_bounds(alloc, board, first, rest, purpose)
 }
 
 /// The first of some moves that leaves the fewest conflicts. A single move is not tried. Want of memory spoils the board.

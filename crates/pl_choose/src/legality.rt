@@ -1,13 +1,14 @@
-ghost use Rattle.std.specs.Prelude.{◌≡◌, ◌++◌, ◌∷◌, [], true, false, All, filter, IfOk, OnOk};
+ghost use Rattle.std.specs.Prelude.{◌≡◌, ◌<◌, ◌≤◌, ◌++◌, ◌∷◌, [], true, false, All, filter, take, length, IfOk, OnOk};
 ghost use Rattle.pl_semantics.specs.Moves.{is_proper};
 ghost use Rattle.pl_semantics.specs.Legal.{is_legal, legal_for};
 ghost use Rattle.pl_choose.specs.Found.{IsProper};
 ghost use Rattle.pl_choose.specs.Stretches.{IsStretch};
 
-use crate::stretch::{Stretch, stretch_then};
+use crate::stretch::{Stretch, stretch_of};
 use pl_board::Board;
 use pl_cand::candidates;
 use pl_conflict::Conflict;
+use pl_moves::run_length;
 use pl_plan::RepairMove;
 use std::alloc::{AllocError, Global};
 
@@ -29,7 +30,55 @@ fn add_if_legal(
     Ok(())
 }
 
-// The moves that nothing refuses. Of many that place the same at starts in turn, those that start first and last tell of the others.
+// Appends those of some moves that nothing refuses. Where the stretch has all of them, none is looked at.
+#[tactic(auto, using(crate::proofs::Between::has_all_legal))]
+fn add_legal(
+    board: &Board,
+    stretch: Stretch,
+    moves: &[RepairMove],
+    all: &mut Vec<RepairMove>,
+) -> Result<(), AllocError>
+    requires unspoiled { board.now.spoiled ≡ false }
+    requires proper { All (IsProper board.now.state) moves.now }
+    requires stretch { IsStretch board.now.state stretch }
+    ensures { OnOk result (all.new.items ≡ all.old.items ++ filter (is_legal board.now.state) moves.now) }
+{
+    if stretch.has_all(moves) {
+        all.extend_from_slice(moves)?;
+        return Ok(());
+    }
+    for mv in moves {
+        add_if_legal(board, stretch, mv, all)?;
+    }
+    Ok(())
+}
+
+// Appends those of the first move, and of the moves behind it that place the same, that nothing refuses. Of many that place the same,
+// those that start first and last tell of the others. Answers how many were looked at.
+#[tactic(auto, using(crate::proofs::Finding::run_kept))]
+fn add_run(
+    board: &Board,
+    moves: &[RepairMove],
+    all: &mut Vec<RepairMove>,
+) -> Result<usize, AllocError>
+    requires unspoiled { board.now.spoiled ≡ false }
+    requires some { 0 < length moves.now }
+    requires proper { All (IsProper board.now.state) moves.now }
+    ensures kept { IfOk result (λ n. all.new.items ≡ all.old.items ++ filter (is_legal board.now.state) (take n moves.now)) }
+    ensures some { IfOk result (λ n. 0 < n) }
+    ensures few { IfOk result (λ n. n ≤ length moves.now) }
+{
+    let first = &moves[0];
+    let rest = &moves[1..];
+    let count = run_length(first, rest);
+    let run = &rest[..count];
+    let stretch = stretch_of(board, *first, run);
+    add_if_legal(board, stretch, first, all)?;
+    add_legal(board, stretch, run, all)?;
+    Ok(count + 1)
+}
+
+// The moves that nothing refuses.
 fn legal_among(
     alloc: Global,
     board: &Board,
@@ -40,10 +89,10 @@ fn legal_among(
     ensures { IfOk result (λ all. all.items ≡ filter (is_legal board.now.state) tried.now) }
 {
     let mut all = Vec::with_capacity(alloc, tried.len())?;
-    let mut stretch = Stretch::none(RepairMove::Drop { goal: 0 });
-    for (place, mv) in tried.iter().enumerate() {
-        stretch = stretch_then(board, stretch, &tried[place..]);
-        add_if_legal(board, stretch, mv, &mut all)?;
+    let mut done = 0;
+    'runs: while done < tried.len() {
+        let count = add_run(board, &tried[done..], &mut all)?;
+        done += count;
     }
     Ok(all)
 }

@@ -17,9 +17,11 @@ mod repairs;
 mod search;
 mod seeded;
 mod sharing;
+mod stages;
 mod stretch;
 mod trial;
 mod tries;
+mod turns;
 
 pub use least::Least;
 pub use seeded::Seeded;
