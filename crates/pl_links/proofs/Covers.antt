@@ -30,7 +30,7 @@ use Rattle.pl_links.proofs.Anys.{any_from, any_found, any_filter}
 use Rattle.pl_links.proofs.Keyed.{key, contained}
 use Rattle.pl_links.proofs.Filed.{item-without}
 use Rattle.pl_links.proofs.Left.{item_is, has_filed, place_at}
-use Rattle.pl_links.proofs.BrokenLaws.{broken, within}
+use Rattle.pl_links.proofs.BrokenLaws.{broken, link_within, failing_within}
 use Rattle.pl_links.proofs.Marks.{itself}
 
 -- ---- what a list of links and orders holds
@@ -41,19 +41,15 @@ has_left b xs ys e = list_any-append (is_at (broken_cmp b)) xs ys ∙ or_left (h
 has_right : (b : Broken) (xs ys : List Broken) → has b ys ≡ true → has b (xs ++ ys) ≡ true
 has_right b xs ys e = list_any-append (is_at (broken_cmp b)) xs ys ∙ or_right (has b xs) (has b ys) e
 
-two_have : (id n : ℕ) (slots : Bool) → has (broken id n slots) (broken id n false ∷ broken id n true ∷ []) ≡ true
-two_have id n false = or_left (is_at (broken_cmp (broken id n false)) (broken id n false)) (has (broken id n false) (broken id n true ∷ [])) (itself (broken id n false))
-two_have id n true = or_right (is_at (broken_cmp (broken id n true)) (broken id n false)) (has (broken id n true) (broken id n true ∷ [])) (or_left (is_at (broken_cmp (broken id n true)) (broken id n true)) false (itself (broken id n true)))
-
-has_below : (id n index : ℕ) (slots : Bool) → index < n → has (broken id index slots) (all_below id n) ≡ true
+has_below : (id n index : ℕ) (slots : Bool) → index < n → has (broken id index slots) (all_below id slots n) ≡ true
 has_below id zero index slots lt = absurd (omega (arith, lt))
 has_below id (suc n) index slots lt =
-    let two = broken id n false ∷ broken id n true ∷ [] in
+    let one = broken id n slots ∷ [] in
     ⊎_elim
-    (λ (before : index < n). has_left (broken id index slots) (all_below id n) two (has_below id n index slots before))
+    (λ (before : index < n). has_left (broken id index slots) (all_below id slots n) one (has_below id n index slots before))
     (λ (behind : n ≤ index).
     let same : n ≡ index = omega (arith, lt, behind) in
-    has_right (broken id index slots) (all_below id n) two (subst (λ k. has (broken id index slots) (broken id k false ∷ broken id k true ∷ []) ≡ true) (sym same) (two_have id index slots)))
+    has_right (broken id index slots) (all_below id slots n) one (subst (λ k. has (broken id index slots) (broken id k slots ∷ []) ≡ true) (sym same) (or_left (is_at (broken_cmp (broken id index slots)) (broken id index slots)) false (itself (broken id index slots)))))
     (cases_lt index n)
 
 -- ---- one activity less
@@ -220,8 +216,9 @@ module _ (model : Model) (items : List Placed) (files : Files) (p : Placed) (ris
         of_parent : (q : ℕ × ℕ) (t : Bool) → p.parent ≡ Some q → eqb q.0 own.id ≡ t → is_unmet items own order ≡ is_unmet rest own order
         of_parent q true is e =
             let parent : parent_of items p.parent ≡ Some own = ap (parent_of items) is ∙ ap (λ i. item_of i items) (eqb-true q.0 own.id e) ∙ placed in
-            let lt : index < max (length (links_of model own)) (length (orders_of model own)) = omega (arith, order_within (orders_of model own) index order at) in
-            let found : has (broken own.id index true) (all_of model (parent_of items p.parent)) ≡ true = rw parent (has_below own.id (max (length (links_of model own)) (length (orders_of model own))) index true lt) in
+            let lt : index < length (orders_of model own) = order_within (orders_of model own) index order at in
+            let found : has (broken own.id index true) (all_of model (parent_of items p.parent)) ≡ true =
+            rw parent (has_right (broken own.id index true) (all_below own.id false (length (links_of model own))) (all_below own.id true (length (orders_of model own))) (has_below own.id (length (orders_of model own)) index true lt)) in
             let bad : false ≡ true = sym (parts (broken own.id index true) off).1 ∙ found in
             absurd (cc)
         of_parent q false is e = unmet_same (λ slot. ap (is_slot own.id slot) is ∙ and_left (eqb q.0 own.id) (eqb q.1 slot) e) order
@@ -238,8 +235,15 @@ module _ (model : Model) (items : List Placed) (files : Files) (p : Placed) (ris
   own_has b is s =
       let at : item_of b.id items ≡ Some p = subst (λ i. item_of i items ≡ Some p) is here in
       let fails : fails_at items p (links_of model p) (orders_of model p) b.index b.slots ≡ true = sym (ap (stands_at model items b) at) ∙ s in
-      let lt = within items p (links_of model p) (orders_of model p) b.index b.slots fails in
-      subst (λ i. has (broken i b.index b.slots) (all_of model (Some p)) ≡ true) is (has_below p.id (max (length (links_of model p)) (length (orders_of model p))) b.index b.slots lt)
+      subst (λ i. has (broken i b.index b.slots) (all_of model (Some p)) ≡ true) is (of_own b.index b.slots fails)
+    where
+      of_own : (index : ℕ) (slots : Bool) → fails_at items p (links_of model p) (orders_of model p) index slots ≡ true → has (broken p.id index slots) (all_of model (Some p)) ≡ true
+      of_own index false fails =
+          has_left (broken p.id index false) (all_below p.id false (length (links_of model p))) (all_below p.id true (length (orders_of model p)))
+          (has_below p.id (length (links_of model p)) index false (link_within items p (links_of model p) index fails))
+      of_own index true fails =
+          has_right (broken p.id index true) (all_below p.id false (length (links_of model p))) (all_below p.id true (length (orders_of model p)))
+          (has_below p.id (length (orders_of model p)) index true (failing_within items p (orders_of model p) index fails))
 
   -- what is not near an activity stands with it where it stands without it
   pub covers : (b : Broken) → has b (near model items files p (parent_of items p.parent)) ≡ false → stands model items b ≡ stands model (without p.id items) b

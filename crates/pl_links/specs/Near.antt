@@ -1,5 +1,5 @@
 -- What may be broken, or mended, where an activity comes or goes.
-use Rattle.std.specs.Prelude.{◌&&◌, true, false, ℕ, zero, suc, ◌==◌, ◌+◌, List, [], ◌∷◌, ◌++◌, length, max, map, filter, Option, Some, None, if◌then◌else◌}
+use Rattle.std.specs.Prelude.{◌&&◌, Bool, true, false, ℕ, zero, suc, ◌==◌, ◌+◌, List, [], ◌∷◌, ◌++◌, length, map, filter, Option, Some, None, if◌then◌else◌}
 use Rattle.pl_model.specs.declared.reservations.Point.{Point}
 use Rattle.pl_model.specs.declared.reservations.Point.TheVariants.{Start, End}
 use Rattle.pl_model.specs.declared.links.Link.{Link}
@@ -14,22 +14,18 @@ use Rattle.pl_links.specs.Keys.{link_at}
 use Rattle.pl_links.specs.Asked.{is_asked}
 use Rattle.pl_links.specs.Broken.{moment_of, is_apart, links_of, orders_of}
 
--- the link and the order of one index
-abbrev pub both : ℕ → ℕ → List Broken
-both id index =
-    record { id = id; index = index; slots = false }
-    ∷ record { id = id; index = index; slots = true } ∷ []
-
--- the links and orders of an activity at the indexes below one
-abbrev pub all_below : ℕ → ℕ → List Broken
-all_below id zero = []
-all_below id (suc n) = all_below id n ++ both id n
+-- the links of an activity, or its orders, at the indexes below one
+abbrev pub all_below : ℕ → Bool → ℕ → List Broken
+all_below id slots zero = []
+all_below id slots (suc n) =
+    all_below id slots n ++ (record { id = id; index = n; slots = slots } ∷ [])
 
 -- all links and orders of an activity
 abbrev pub all_of : Model → Option Placed → List Broken
 all_of model None = []
 all_of model (Some p) =
-    all_below p.id (max (length (links_of model p)) (length (orders_of model p)))
+    all_below p.id false (length (links_of model p))
+    ++ all_below p.id true (length (orders_of model p))
 
 -- the parent that an activity has
 abbrev pub parent_of : List Placed → Option (ℕ × ℕ) → Option Placed

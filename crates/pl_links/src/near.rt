@@ -1,7 +1,7 @@
 //! What may be broken, or mended, where an activity comes or goes.
 ghost use Rattle.std.specs.Prelude.{◌≡◌, ◌++◌, Some, OnOk, IfOk};
 ghost use Rattle.std.specs.Map.{values_of};
-ghost use Rattle.pl_links.specs.Near.{both, all_of, keys_at, near};
+ghost use Rattle.pl_links.specs.Near.{all_below, all_of, keys_at, near};
 ghost use Rattle.pl_links.specs.Near.{owners_at, owners_of, owners_in, owners_among};
 
 use crate::broken::Broken;
@@ -16,20 +16,20 @@ use pl_model::{Kind, Link, Model, Point};
 use std::alloc::{AllocError, Global};
 use std::collections::BTreeMap;
 
-// Adds the link and the order of one index.
-fn add_both(near: &mut Vec<Broken>, id: u32, index: u32) -> Result<(), AllocError>
-    ensures { OnOk result (near.new.items ≡ near.old.items ++ both id index) }
+// Adds the links of an activity, or its orders, at the indexes below this count.
+fn add_below(near: &mut Vec<Broken>, id: u32, slots: bool, count: usize) -> Result<(), AllocError>
+    ensures { OnOk result (near.new.items ≡ near.old.items ++ all_below id slots count) }
 {
-    near.push(Broken {
-        id,
-        index,
-        slots: false,
-    })?;
-    near.push(Broken {
-        id,
-        index,
-        slots: true,
-    })?;
+    if count > u32::MAX as usize {
+        return Err(AllocError);
+    }
+    for at in 0..count {
+        near.push(Broken {
+            id,
+            index: at as u32,
+            slots,
+        })?;
+    }
     Ok(())
 }
 
@@ -37,15 +37,8 @@ fn add_both(near: &mut Vec<Broken>, id: u32, index: u32) -> Result<(), AllocErro
 fn add_all(near: &mut Vec<Broken>, model: &Model, item: &Placed) -> Result<(), AllocError>
     ensures { OnOk result (near.new.items ≡ near.old.items ++ all_of model.now (Some item.now)) }
 {
-    let count = links_of(model, item)
-        .len()
-        .max(orders_of(model, item).len());
-    if count > u32::MAX as usize {
-        return Err(AllocError);
-    }
-    for at in 0..count {
-        add_both(near, item.id, at as u32)?;
-    }
+    add_below(near, item.id, false, links_of(model, item).len())?;
+    add_below(near, item.id, true, orders_of(model, item).len())?;
     Ok(())
 }
 
