@@ -82,7 +82,8 @@ impl Store {
         if !self.items.is_empty() {
             return Ok(());
         }
-        self.files = Files::by(alloc, model)?;
+        let files = Files::by(alloc, model)?;
+        self.files = files;
         Ok(())
     }
 
