@@ -55,12 +55,7 @@ impl Store {
     }
 
     /// Places an activity of a new id, in a slot that is free.
-    pub fn place(
-        &mut self,
-        alloc: Global,
-        model: &Model,
-        item: &Placed,
-    ) -> Result<(), AllocError>
+    pub fn place(&mut self, alloc: Global, model: &Model, item: &Placed) -> Result<(), AllocError>
         requires absent { item_of item.now.id self.old ≡ None }
         requires slot { IfSome item.now.parent (λ q. child_of q.0 q.1 self.old ≡ None) }
         ensures ok { OnOk result (self.new ≡ with_item item.now self.old) }

@@ -11,4 +11,4 @@ begun (e ∷ es) files new stored none filed = absurd (omega (arith, none))
 pub invariant_of-self : goal.invariant_of-self
 invariant_of-self c =
     begun c.self.inside.items.entries c.self.inside.files c.in_ok-files.files c.self.invariant
-    (c.is_empty.ensures.0 (rw c.if-not-is_empty.false tt)) c.in_ok-files.ensures
+    (c.is_empty.ensures.0 c.if-not-is_empty.false) c.in_ok-files.ensures
