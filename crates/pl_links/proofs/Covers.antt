@@ -106,8 +106,8 @@ moment_firm point p t = cases p.end
     cases None e = absurd (let h : None ≡ Some t = e in (cc))
     cases (Some m) e = refl
 
-loose_moment : (point : Point) (p : Placed) → is_some p.end ≡ false → moment_of point p ≡ None
-loose_moment point p = cases p.end
+no_moment : (point : Point) (p : Placed) → is_some p.end ≡ false → moment_of point p ≡ None
+no_moment point p = cases p.end
   where
     cases : (o : Option ℕ) → is_some o ≡ false → option_map {U = ℕ} (λ end. point_of point p.start end) o ≡ None
     cases None e = refl
@@ -254,18 +254,18 @@ module _ (model : Model) (items : List Placed) (files : Files) (p : Placed) (ris
             let bad : Some q ≡ None = sym there ∙ subst (λ (x : Placed). item_of x.id rest ≡ None) (sym is) gone in
             absurd (cc)
 
-    moment_loose : is_some p.end ≡ false → (o : Option ℕ) (point : Point) → moment_in items own o point ≡ moment_in rest own o point
-    moment_loose loose None point = refl
-    moment_loose loose (Some slot) point = cases (fills own.id slot p) refl
+    moment_not_firm : is_some p.end ≡ false → (o : Option ℕ) (point : Point) → moment_in items own o point ≡ moment_in rest own o point
+    moment_not_firm not_firm None point = refl
+    moment_not_firm not_firm (Some slot) point = cases (fills own.id slot p) refl
       where
         cases : (t : Bool) → fills own.id slot p ≡ t → moment_in items own (Some slot) point ≡ moment_in rest own (Some slot) point
         cases false e = ap (option_and_then (moment_of point)) (sym (find_without (fills own.id slot) p items here e))
         cases true e =
             let at : child_of own.id slot items ≡ Some p = (only_child items apart own.id slot p).1 ((item_is p.id items p here).0, place_is own.id slot p.parent e) in
-            ap (option_and_then (moment_of point)) at ∙ loose_moment point p loose ∙ sym (ap (option_and_then (moment_of point)) (child_gone slot at))
+            ap (option_and_then (moment_of point)) at ∙ no_moment point p not_firm ∙ sym (ap (option_and_then (moment_of point)) (child_gone slot at))
 
-    unmet_loose : is_some p.end ≡ false → (order : Order) → is_unmet items own order ≡ is_unmet rest own order
-    unmet_loose loose order = rw (moment_loose loose order.first order.first_end, moment_loose loose order.second order.second_end) refl
+    unmet_not_firm : is_some p.end ≡ false → (order : Order) → is_unmet items own order ≡ is_unmet rest own order
+    unmet_not_firm not_firm order = rw (moment_not_firm not_firm order.first order.first_end, moment_not_firm not_firm order.second order.second_end) refl
 
     order_same : (o : Option Order) → slice_get (orders_of model own) index ≡ o → has (broken own.id index true) all ≡ false → is_order_broken items own o ≡ is_order_broken rest own o
     order_same None at off = refl
@@ -277,7 +277,7 @@ module _ (model : Model) (items : List Placed) (files : Files) (p : Placed) (ris
             let found : has (broken own.id index true) (own_orders model (parent_of items p.parent)) ≡ true = rw parent (has_below own.id (length (orders_of model own)) index true lt) in
             let bad : false ≡ true = sym (firm_parts (broken own.id index true) firm off).0 ∙ found in
             absurd (cc)
-        by_end false loose parent = unmet_loose loose order
+        by_end false not_firm parent = unmet_not_firm not_firm order
 
         of_parent : (q : ℕ × ℕ) (t : Bool) → p.parent ≡ Some q → eqb q.0 own.id ≡ t → is_unmet items own order ≡ is_unmet rest own order
         of_parent q true is e = by_end (is_some p.end) refl (ap (parent_of items) is ∙ ap (λ i. item_of i items) (eqb-true q.0 own.id e) ∙ placed)
