@@ -34,15 +34,15 @@ flat_contains f b (x ∷ xs) =
     (All-weaker (λ own. Contains (f own) b → Contains (flat_map f xs) b) (λ own. Contains (f own) b → Contains (flat_map f (x ∷ xs)) b)
     (λ own later c. Contains-append_right (f x) (flat_map f xs) b (later c)) xs (flat_contains f b xs))
 
-link_within : (items : List Placed) (own : Placed) (ls : List Link) (i : ℕ) → is_link_broken items own (slice_get ls i) ≡ true → i < length ls
+pub link_within : (items : List Placed) (own : Placed) (ls : List Link) (i : ℕ) → is_link_broken items own (slice_get ls i) ≡ true → i < length ls
 link_within items own [] i e = absurd (let h : false ≡ true = e in (cc))
 link_within items own (l ∷ ls) zero e = omega arith
 link_within items own (l ∷ ls) (suc i) e = omega (arith, link_within items own ls i e)
 
-order_within : (items : List Placed) (own : Placed) (os : List Order) (i : ℕ) → is_order_broken items own (slice_get os i) ≡ true → i < length os
-order_within items own [] i e = absurd (let h : false ≡ true = e in (cc))
-order_within items own (o ∷ os) zero e = omega arith
-order_within items own (o ∷ os) (suc i) e = omega (arith, order_within items own os i e)
+pub failing_within : (items : List Placed) (own : Placed) (os : List Order) (i : ℕ) → is_order_broken items own (slice_get os i) ≡ true → i < length os
+failing_within items own [] i e = absurd (let h : false ≡ true = e in (cc))
+failing_within items own (o ∷ os) zero e = omega arith
+failing_within items own (o ∷ os) (suc i) e = omega (arith, failing_within items own os i e)
 
 module _ (items : List Placed) (own : Placed) (ls : List Link) (os : List Order) where
   all_below : (P : Broken → Type 0) → ((index : ℕ) (slots : Bool) → fails_at items own ls os index slots ≡ true → P (broken own.id index slots)) → (n : ℕ) → All P (broken_below items own ls os n)
@@ -76,7 +76,7 @@ module _ (items : List Placed) (own : Placed) (ls : List Link) (os : List Order)
 
   pub within : (index : ℕ) (slots : Bool) → fails_at items own ls os index slots ≡ true → index < max (length ls) (length os)
   within index false e = omega (arith, link_within items own ls index e)
-  within index true e = omega (arith, order_within items own os index e)
+  within index true e = omega (arith, failing_within items own os index e)
 
 pub all_are_broken : (model : Model) (items : List Placed) → All (IsBroken model items) (broken_of model items)
 all_are_broken model items =

@@ -17,20 +17,22 @@ use Rattle.pl_links.specs.declared.placed.Placed.{Placed}
 use Rattle.pl_links.specs.declared.broken.Broken.{Broken}
 use Rattle.pl_links.specs.declared.keys.Key.{Key}
 use Rattle.pl_links.specs.declared.files.Files.{Files}
-use Rattle.pl_links.specs.Items.{is_slot, fills, AreRising, item_of, without, child_of, kind_of}
-use Rattle.pl_links.specs.Broken.{moment_of, is_apart, are_apart, is_partner, lacks_partner, moment_in, is_unmet, are_misplaced, is_link_broken, is_order_broken, links_in, links_of, orders_of}
+use Rattle.pl_links.specs.Items.{is_slot, fills, AreRising, AreApart, item_of, without, child_of, kind_of}
+use Rattle.pl_links.specs.Broken.{point_of, moment_of, is_apart, are_apart, is_partner, lacks_partner, moment_in, is_unmet, are_misplaced, is_link_broken, is_order_broken, links_in, links_of, orders_of}
 use Rattle.pl_links.specs.Laws.{fails_at}
 use Rattle.pl_links.specs.Keys.{link_at, has_key}
 use Rattle.pl_links.specs.Asked.{is_asked}
 use Rattle.pl_links.specs.Filed.{AreFiles, point_place}
 use Rattle.pl_links.specs.Standing.{stands_at, stands}
 use Rattle.pl_links.specs.Sets.{broken_cmp, has}
-use Rattle.pl_links.specs.Near.{all_below, all_of, parent_of, keys_at, owners_at, link_of, owners_all, owners_of, owners_in, owners_among, near}
+use Rattle.pl_links.specs.Near.{all_below, own_links, own_orders, parent_of, firm_parent, keys_at, owners_at, link_of, owners_all, owners_of, owners_in, owners_among, near_firm, near}
 use Rattle.pl_links.proofs.Anys.{any_from, any_found, any_filter}
 use Rattle.pl_links.proofs.Keyed.{key, contained}
 use Rattle.pl_links.proofs.Filed.{item-without}
-use Rattle.pl_links.proofs.Left.{item_is, has_filed, place_at}
-use Rattle.pl_links.proofs.BrokenLaws.{broken, within}
+use Rattle.pl_links.proofs.Ids.{rising-without}
+use Rattle.pl_links.proofs.Slots.{apart-without, only_child, place_is}
+use Rattle.pl_links.proofs.Left.{item_is, item_here, left_within, has_filed, place_at}
+use Rattle.pl_links.proofs.BrokenLaws.{broken, link_within, failing_within}
 use Rattle.pl_links.proofs.Marks.{itself}
 
 -- ---- what a list of links and orders holds
@@ -41,19 +43,15 @@ has_left b xs ys e = list_any-append (is_at (broken_cmp b)) xs ys ∙ or_left (h
 has_right : (b : Broken) (xs ys : List Broken) → has b ys ≡ true → has b (xs ++ ys) ≡ true
 has_right b xs ys e = list_any-append (is_at (broken_cmp b)) xs ys ∙ or_right (has b xs) (has b ys) e
 
-two_have : (id n : ℕ) (slots : Bool) → has (broken id n slots) (broken id n false ∷ broken id n true ∷ []) ≡ true
-two_have id n false = or_left (is_at (broken_cmp (broken id n false)) (broken id n false)) (has (broken id n false) (broken id n true ∷ [])) (itself (broken id n false))
-two_have id n true = or_right (is_at (broken_cmp (broken id n true)) (broken id n false)) (has (broken id n true) (broken id n true ∷ [])) (or_left (is_at (broken_cmp (broken id n true)) (broken id n true)) false (itself (broken id n true)))
-
-has_below : (id n index : ℕ) (slots : Bool) → index < n → has (broken id index slots) (all_below id n) ≡ true
+has_below : (id n index : ℕ) (slots : Bool) → index < n → has (broken id index slots) (all_below id slots n) ≡ true
 has_below id zero index slots lt = absurd (omega (arith, lt))
 has_below id (suc n) index slots lt =
-    let two = broken id n false ∷ broken id n true ∷ [] in
+    let one = broken id n slots ∷ [] in
     ⊎_elim
-    (λ (before : index < n). has_left (broken id index slots) (all_below id n) two (has_below id n index slots before))
+    (λ (before : index < n). has_left (broken id index slots) (all_below id slots n) one (has_below id n index slots before))
     (λ (behind : n ≤ index).
     let same : n ≡ index = omega (arith, lt, behind) in
-    has_right (broken id index slots) (all_below id n) two (subst (λ k. has (broken id index slots) (broken id k false ∷ broken id k true ∷ []) ≡ true) (sym same) (two_have id index slots)))
+    has_right (broken id index slots) (all_below id slots n) one (subst (λ k. has (broken id index slots) (broken id k slots ∷ []) ≡ true) (sym same) (or_left (is_at (broken_cmp (broken id index slots)) (broken id index slots)) false (itself (broken id index slots)))))
     (cases_lt index n)
 
 -- ---- one activity less
@@ -100,6 +98,27 @@ both_moments : (low high : ℤ) (a b : Option ℕ) → are_apart low high a b �
 both_moments low high None b e = absurd (let h : false ≡ true = e in (cc))
 both_moments low high (Some m) None e = absurd (let h : false ≡ true = e in (cc))
 both_moments low high (Some m) (Some t) e = (m, t, refl, refl, e)
+
+moment_firm : (point : Point) (p : Placed) (t : ℕ) → moment_of point p ≡ Some t → is_some p.end ≡ true
+moment_firm point p t = cases p.end
+  where
+    cases : (o : Option ℕ) → option_map {U = ℕ} (λ end. point_of point p.start end) o ≡ Some t → is_some o ≡ true
+    cases None e = absurd (let h : None ≡ Some t = e in (cc))
+    cases (Some m) e = refl
+
+no_moment : (point : Point) (p : Placed) → is_some p.end ≡ false → moment_of point p ≡ None
+no_moment point p = cases p.end
+  where
+    cases : (o : Option ℕ) → is_some o ≡ false → option_map {U = ℕ} (λ end. point_of point p.start end) o ≡ None
+    cases None e = refl
+    cases (Some m) e = absurd (let h : true ≡ false = e in (cc))
+
+partner_firm : (link : Link) (own p : Placed) → is_partner link own p ≡ true → is_some p.end ≡ true
+partner_firm link own p e =
+    let parts = and_parts (not (eqb p.id own.id)) (eqb p.kind link.kind && are_apart link.low link.high (moment_of link.mine own) (moment_of link.theirs p)) e in
+    let more = and_parts (eqb p.kind link.kind) (are_apart link.low link.high (moment_of link.mine own) (moment_of link.theirs p)) parts.1 in
+    let moments = both_moments link.low link.high (moment_of link.mine own) (moment_of link.theirs p) more.1 in
+    moment_firm link.theirs p moments.1 moments.3
 
 module _ (items : List Placed) (files : Files) (filed : AreFiles items files) (p own : Placed) (placed : item_of own.id items ≡ Some own) where
   owner_has : (link : Link) (index : ℕ) → is_partner link own p ≡ true → has (broken own.id index false) (owners_of items files own.kind link index p) ≡ true
@@ -181,18 +200,23 @@ order_within [] i order e = absurd (let h : None ≡ Some order = e in (cc))
 order_within (x ∷ orders) zero order e = omega arith
 order_within (x ∷ orders) (suc i) order e = omega (arith, order_within orders i order e)
 
-module _ (model : Model) (items : List Placed) (files : Files) (p : Placed) (rising : AreRising items) (filed : AreFiles items files) (here : item_of p.id items ≡ Some p) where
+module _ (model : Model) (items : List Placed) (files : Files) (p : Placed) (rising : AreRising items) (apart : AreApart items) (filed : AreFiles items files) (here : item_of p.id items ≡ Some p) where
   abbrev rest : List Placed
   rest = without p.id items
 
-  abbrev all : List Broken
-  all = near model items files p (parent_of items p.parent)
+  -- what a firm activity may touch, where it is firm or not
+  abbrev more : Bool → List Broken
+  more firm = cond firm (near_firm model items files p (cond firm (parent_of items p.parent) None)) []
 
-  parts : (b : Broken) → has b all ≡ false → (has b (all_of model (Some p)) ≡ false) × (has b (all_of model (parent_of items p.parent)) ≡ false) × (has b (owners_among items files model.kinds 0 p) ≡ false)
-  parts b off =
-      let last = not_has b (all_of model (Some p) ++ all_of model (parent_of items p.parent)) (owners_among items files model.kinds 0 p) off in
-      let first = not_has b (all_of model (Some p)) (all_of model (parent_of items p.parent)) last.0 in
-      (first.0, first.1, last.1)
+  abbrev all : List Broken
+  all = near model items files p (firm_parent items p)
+
+  firm_parts : (b : Broken) → is_some p.end ≡ true → has b all ≡ false → (has b (own_orders model (parent_of items p.parent)) ≡ false) × (has b (owners_among items files model.kinds 0 p) ≡ false)
+  firm_parts b firm off =
+      let beside : has b (more (is_some p.end)) ≡ false = (not_has b (own_orders model (Some p)) (more (is_some p.end)) off).1 in
+      let touched : has b (more true) ≡ false = subst (λ t. has b (more t) ≡ false) firm beside in
+      let last = not_has b (own_links model p) (own_orders model (parent_of items p.parent) ++ owners_among items files model.kinds 0 p) touched in
+      not_has b (own_orders model (parent_of items p.parent)) (owners_among items files model.kinds 0 p) last.1
 
   module _ (own : Placed) (placed : item_of own.id items ≡ Some own) (index : ℕ) where
     link_same : (o : Option Link) → slice_get (links_of model own) index ≡ o → has (broken own.id index false) all ≡ false → is_link_broken items own o ≡ is_link_broken rest own o
@@ -202,7 +226,7 @@ module _ (model : Model) (items : List Placed) (files : Files) (p : Placed) (ris
         cases : (t : Bool) → is_partner link own p ≡ t → lacks_partner items own link ≡ lacks_partner rest own link
         cases true e =
             let found = link_has items files filed p own placed model (kind_of model own) refl index link at e in
-            let bad : false ≡ true = sym (parts (broken own.id index false) off).2 ∙ found in
+            let bad : false ≡ true = sym (firm_parts (broken own.id index false) (partner_firm link own p e) off).1 ∙ found in
             absurd (cc)
         cases false e = ap (λ t. is_some own.end && not t) (sym (any_without (is_partner link own) p items here e))
 
@@ -213,17 +237,50 @@ module _ (model : Model) (items : List Placed) (files : Files) (p : Placed) (ris
     unmet_same : ((slot : ℕ) → fills own.id slot p ≡ false) → (order : Order) → is_unmet items own order ≡ is_unmet rest own order
     unmet_same apart order = rw (moment_same apart order.first order.first_end, moment_same apart order.second order.second_end) refl
 
+    -- one that is not firm has no moment, so its slot may as well be empty
+    child_gone : (slot : ℕ) → child_of own.id slot items ≡ Some p → child_of own.id slot rest ≡ None
+    child_gone slot at = cases (child_of own.id slot rest) refl
+      where
+        cases : (o : Option Placed) → child_of own.id slot rest ≡ o → child_of own.id slot rest ≡ None
+        cases None e = e
+        cases (Some q) e =
+            let within = (only_child rest (apart-without p.id items apart) own.id slot q).0 e in
+            let there : item_of q.id rest ≡ Some q = item_here rest q (rising-without p.id 0 items rising) within.0 in
+            let too : item_of q.id items ≡ Some q = left_within (Some p.id) q.id items q rising there in
+            let found : child_of own.id slot items ≡ Some q = (only_child items apart own.id slot q).1 ((item_is q.id items q too).0, within.1) in
+            let same : Some p ≡ Some q = sym at ∙ found in
+            let is : q ≡ p = cc in
+            let gone : item_of p.id rest ≡ None = item-without p.id p.id 0 items rising ∙ rw (eq-eqb p.id p.id refl) refl in
+            let bad : Some q ≡ None = sym there ∙ subst (λ (x : Placed). item_of x.id rest ≡ None) (sym is) gone in
+            absurd (cc)
+
+    moment_not_firm : is_some p.end ≡ false → (o : Option ℕ) (point : Point) → moment_in items own o point ≡ moment_in rest own o point
+    moment_not_firm not_firm None point = refl
+    moment_not_firm not_firm (Some slot) point = cases (fills own.id slot p) refl
+      where
+        cases : (t : Bool) → fills own.id slot p ≡ t → moment_in items own (Some slot) point ≡ moment_in rest own (Some slot) point
+        cases false e = ap (option_and_then (moment_of point)) (sym (find_without (fills own.id slot) p items here e))
+        cases true e =
+            let at : child_of own.id slot items ≡ Some p = (only_child items apart own.id slot p).1 ((item_is p.id items p here).0, place_is own.id slot p.parent e) in
+            ap (option_and_then (moment_of point)) at ∙ no_moment point p not_firm ∙ sym (ap (option_and_then (moment_of point)) (child_gone slot at))
+
+    unmet_not_firm : is_some p.end ≡ false → (order : Order) → is_unmet items own order ≡ is_unmet rest own order
+    unmet_not_firm not_firm order = rw (moment_not_firm not_firm order.first order.first_end, moment_not_firm not_firm order.second order.second_end) refl
+
     order_same : (o : Option Order) → slice_get (orders_of model own) index ≡ o → has (broken own.id index true) all ≡ false → is_order_broken items own o ≡ is_order_broken rest own o
     order_same None at off = refl
     order_same (Some order) at off = cases p.parent refl
       where
-        of_parent : (q : ℕ × ℕ) (t : Bool) → p.parent ≡ Some q → eqb q.0 own.id ≡ t → is_unmet items own order ≡ is_unmet rest own order
-        of_parent q true is e =
-            let parent : parent_of items p.parent ≡ Some own = ap (parent_of items) is ∙ ap (λ i. item_of i items) (eqb-true q.0 own.id e) ∙ placed in
-            let lt : index < max (length (links_of model own)) (length (orders_of model own)) = omega (arith, order_within (orders_of model own) index order at) in
-            let found : has (broken own.id index true) (all_of model (parent_of items p.parent)) ≡ true = rw parent (has_below own.id (max (length (links_of model own)) (length (orders_of model own))) index true lt) in
-            let bad : false ≡ true = sym (parts (broken own.id index true) off).1 ∙ found in
+        by_end : (firm : Bool) → is_some p.end ≡ firm → parent_of items p.parent ≡ Some own → is_unmet items own order ≡ is_unmet rest own order
+        by_end true firm parent =
+            let lt : index < length (orders_of model own) = order_within (orders_of model own) index order at in
+            let found : has (broken own.id index true) (own_orders model (parent_of items p.parent)) ≡ true = rw parent (has_below own.id (length (orders_of model own)) index true lt) in
+            let bad : false ≡ true = sym (firm_parts (broken own.id index true) firm off).0 ∙ found in
             absurd (cc)
+        by_end false not_firm parent = unmet_not_firm not_firm order
+
+        of_parent : (q : ℕ × ℕ) (t : Bool) → p.parent ≡ Some q → eqb q.0 own.id ≡ t → is_unmet items own order ≡ is_unmet rest own order
+        of_parent q true is e = by_end (is_some p.end) refl (ap (parent_of items) is ∙ ap (λ i. item_of i items) (eqb-true q.0 own.id e) ∙ placed)
         of_parent q false is e = unmet_same (λ slot. ap (is_slot own.id slot) is ∙ and_left (eqb q.0 own.id) (eqb q.1 slot) e) order
 
         cases : (o : Option (ℕ × ℕ)) → p.parent ≡ o → is_unmet items own order ≡ is_unmet rest own order
@@ -234,15 +291,28 @@ module _ (model : Model) (items : List Placed) (files : Files) (p : Placed) (ris
     fails_same false off = link_same (slice_get (links_of model own) index) refl off
     fails_same true off = order_same (slice_get (orders_of model own) index) refl off
 
-  own_has : (b : Broken) → p.id ≡ b.id → stands model items b ≡ true → has b (all_of model (Some p)) ≡ true
+  link_firm : (o : Option Link) → is_link_broken items p o ≡ true → is_some p.end ≡ true
+  link_firm None e = absurd (let h : false ≡ true = e in (cc))
+  link_firm (Some link) e = (and_parts (is_some p.end) (not (list_any (is_partner link p) items)) e).0
+
+  own_at : (index : ℕ) (slots : Bool) → fails_at items p (links_of model p) (orders_of model p) index slots ≡ true → has (broken p.id index slots) all ≡ true
+  own_at index true fails =
+      has_left (broken p.id index true) (own_orders model (Some p)) (more (is_some p.end))
+      (has_below p.id (length (orders_of model p)) index true (failing_within items p (orders_of model p) index fails))
+  own_at index false fails =
+      let b = broken p.id index false in
+      let in_links : has b (own_links model p) ≡ true = has_below p.id (length (links_of model p)) index false (link_within items p (links_of model p) index fails) in
+      let in_more : has b (more true) ≡ true = has_left b (own_links model p) (own_orders model (parent_of items p.parent) ++ owners_among items files model.kinds 0 p) in_links in
+      has_right b (own_orders model (Some p)) (more (is_some p.end)) (subst (λ t. has b (more t) ≡ true) (sym (link_firm (slice_get (links_of model p) index) fails)) in_more)
+
+  own_has : (b : Broken) → p.id ≡ b.id → stands model items b ≡ true → has b all ≡ true
   own_has b is s =
       let at : item_of b.id items ≡ Some p = subst (λ i. item_of i items ≡ Some p) is here in
       let fails : fails_at items p (links_of model p) (orders_of model p) b.index b.slots ≡ true = sym (ap (stands_at model items b) at) ∙ s in
-      let lt = within items p (links_of model p) (orders_of model p) b.index b.slots fails in
-      subst (λ i. has (broken i b.index b.slots) (all_of model (Some p)) ≡ true) is (has_below p.id (max (length (links_of model p)) (length (orders_of model p))) b.index b.slots lt)
+      subst (λ i. has (broken i b.index b.slots) all ≡ true) is (own_at b.index b.slots fails)
 
   -- what is not near an activity stands with it where it stands without it
-  pub covers : (b : Broken) → has b (near model items files p (parent_of items p.parent)) ≡ false → stands model items b ≡ stands model (without p.id items) b
+  pub covers : (b : Broken) → has b (near model items files p (firm_parent items p)) ≡ false → stands model items b ≡ stands model (without p.id items) b
   covers b off = cases (eqb p.id b.id) refl
     where
       found : (o : Option Placed) → item_of b.id items ≡ o → item_of b.id rest ≡ item_of b.id items → stands model items b ≡ stands model rest b
@@ -257,6 +327,6 @@ module _ (model : Model) (items : List Placed) (files : Files) (p : Placed) (ris
       cases true e =
           let gone : item_of b.id rest ≡ None = item-without p.id b.id 0 items rising ∙ rw e refl in
           let none : stands model rest b ≡ false = ap (stands_at model rest b) gone in
-          let off_here : stands model items b ≡ false = false_from_ne_true (stands model items b) (λ s. let bad : false ≡ true = sym (parts b off).0 ∙ own_has b (eqb-true p.id b.id e) s in (cc)) in
+          let off_here : stands model items b ≡ false = false_from_ne_true (stands model items b) (λ s. let bad : false ≡ true = sym off ∙ own_has b (eqb-true p.id b.id e) s in (cc)) in
           off_here ∙ sym none
       cases false e = found (item_of b.id items) refl (item-without p.id b.id 0 items rising ∙ rw e refl)

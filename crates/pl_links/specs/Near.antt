@@ -1,5 +1,5 @@
 -- What may be broken, or mended, where an activity comes or goes.
-use Rattle.std.specs.Prelude.{◌&&◌, true, false, ℕ, zero, suc, ◌==◌, ◌+◌, List, [], ◌∷◌, ◌++◌, length, max, map, filter, Option, Some, None, if◌then◌else◌}
+use Rattle.std.specs.Prelude.{◌&&◌, Bool, true, false, ℕ, zero, suc, ◌==◌, ◌+◌, List, [], ◌∷◌, ◌++◌, length, map, filter, Option, Some, None, is_some, if◌then◌else◌}
 use Rattle.pl_model.specs.declared.reservations.Point.{Point}
 use Rattle.pl_model.specs.declared.reservations.Point.TheVariants.{Start, End}
 use Rattle.pl_model.specs.declared.links.Link.{Link}
@@ -14,27 +14,29 @@ use Rattle.pl_links.specs.Keys.{link_at}
 use Rattle.pl_links.specs.Asked.{is_asked}
 use Rattle.pl_links.specs.Broken.{moment_of, is_apart, links_of, orders_of}
 
--- the link and the order of one index
-abbrev pub both : ℕ → ℕ → List Broken
-both id index =
-    record { id = id; index = index; slots = false }
-    ∷ record { id = id; index = index; slots = true } ∷ []
+-- the links of an activity, or its orders, at the indexes below one
+abbrev pub all_below : ℕ → Bool → ℕ → List Broken
+all_below id slots zero = []
+all_below id slots (suc n) =
+    all_below id slots n ++ (record { id = id; index = n; slots = slots } ∷ [])
 
--- the links and orders of an activity at the indexes below one
-abbrev pub all_below : ℕ → ℕ → List Broken
-all_below id zero = []
-all_below id (suc n) = all_below id n ++ both id n
+-- all links of an activity
+abbrev pub own_links : Model → Placed → List Broken
+own_links model p = all_below p.id false (length (links_of model p))
 
--- all links and orders of an activity
-abbrev pub all_of : Model → Option Placed → List Broken
-all_of model None = []
-all_of model (Some p) =
-    all_below p.id (max (length (links_of model p)) (length (orders_of model p)))
+-- all its orders
+abbrev pub own_orders : Model → Option Placed → List Broken
+own_orders model None = []
+own_orders model (Some p) = all_below p.id true (length (orders_of model p))
 
 -- the parent that an activity has
 abbrev pub parent_of : List Placed → Option (ℕ × ℕ) → Option Placed
 parent_of items None = None
 parent_of items (Some place) = item_of place.0 items
+
+-- the parent of a firm activity
+abbrev pub firm_parent : List Placed → Placed → Option Placed
+firm_parent items p = if is_some p.end then parent_of items p.parent else None
 
 abbrev pub keys_at : Point → Files → List Key
 keys_at Start files = files.starts
@@ -77,8 +79,13 @@ owners_among items files [] group p = []
 owners_among items files (kind ∷ kinds) group p =
     owners_in items files group kind.links 0 p ++ owners_among items files kinds (group + 1) p
 
--- the activity's own links and orders, those of its parent, and the links to which it can be a
--- partner
+-- the links of a firm activity, the orders of its parent, and the links to which it can be a partner
+abbrev pub near_firm : Model → List Placed → Files → Placed → Option Placed → List Broken
+near_firm model items files p parent =
+    own_links model p ++ (own_orders model parent ++ owners_among items files model.kinds 0 p)
+
+-- the orders of an activity, and all that only one that is firm may touch
 abbrev pub near : Model → List Placed → Files → Placed → Option Placed → List Broken
 near model items files p parent =
-    all_of model (Some p) ++ all_of model parent ++ owners_among items files model.kinds 0 p
+    own_orders model (Some p)
+    ++ (if is_some p.end then near_firm model items files p parent else [])

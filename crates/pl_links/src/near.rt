@@ -1,7 +1,7 @@
 //! What may be broken, or mended, where an activity comes or goes.
 ghost use Rattle.std.specs.Prelude.{◌≡◌, ◌++◌, Some, OnOk, IfOk};
 ghost use Rattle.std.specs.Map.{values_of};
-ghost use Rattle.pl_links.specs.Near.{both, all_of, keys_at, near};
+ghost use Rattle.pl_links.specs.Near.{all_below, own_links, own_orders, keys_at, near_firm, near};
 ghost use Rattle.pl_links.specs.Near.{owners_at, owners_of, owners_in, owners_among};
 
 use crate::broken::Broken;
@@ -16,36 +16,35 @@ use pl_model::{Kind, Link, Model, Point};
 use std::alloc::{AllocError, Global};
 use std::collections::BTreeMap;
 
-// Adds the link and the order of one index.
-fn add_both(near: &mut Vec<Broken>, id: u32, index: u32) -> Result<(), AllocError>
-    ensures { OnOk result (near.new.items ≡ near.old.items ++ both id index) }
+// Adds the links of an activity, or its orders, at the indexes below this count.
+fn add_below(near: &mut Vec<Broken>, id: u32, slots: bool, count: usize) -> Result<(), AllocError>
+    ensures { OnOk result (near.new.items ≡ near.old.items ++ all_below id slots count) }
 {
-    near.push(Broken {
-        id,
-        index,
-        slots: false,
-    })?;
-    near.push(Broken {
-        id,
-        index,
-        slots: true,
-    })?;
-    Ok(())
-}
-
-// Adds all links and orders of an activity.
-fn add_all(near: &mut Vec<Broken>, model: &Model, item: &Placed) -> Result<(), AllocError>
-    ensures { OnOk result (near.new.items ≡ near.old.items ++ all_of model.now (Some item.now)) }
-{
-    let count = links_of(model, item)
-        .len()
-        .max(orders_of(model, item).len());
     if count > u32::MAX as usize {
         return Err(AllocError);
     }
     for at in 0..count {
-        add_both(near, item.id, at as u32)?;
+        near.push(Broken {
+            id,
+            index: at as u32,
+            slots,
+        })?;
     }
+    Ok(())
+}
+
+fn add_links(near: &mut Vec<Broken>, model: &Model, item: &Placed) -> Result<(), AllocError>
+    ensures { OnOk result (near.new.items ≡ near.old.items ++ own_links model.now item.now) }
+{
+    add_below(near, item.id, false, links_of(model, item).len())?;
+    Ok(())
+}
+
+fn add_orders(near: &mut Vec<Broken>, model: &Model, item: &Placed) -> Result<(), AllocError>
+    ensures { OnOk result (near.new.items
+        ≡ near.old.items ++ own_orders model.now (Some item.now)) }
+{
+    add_below(near, item.id, true, orders_of(model, item).len())?;
     Ok(())
 }
 
@@ -157,21 +156,44 @@ pub(crate) fn near(
         ≡ near model.now (values_of items.now.entries) files.now item.now parent) }
 {
     let mut near = Vec::new(alloc);
-    add_all(&mut near, model, item)?;
-    add_parent(&mut near, model, parent)?;
-    add_owners_among(&mut near, items, files, model.kinds.as_slice(), item)?;
-    Ok(near)
+    add_orders(&mut near, model, item)?;
+    match item.end {
+        Some(_) => {
+            add_firm(&mut near, model, items, files, item, parent)?;
+            Ok(near)
+        }
+        None => Ok(near),
+    }
 }
 
+// Adds what only a firm activity may touch.
+fn add_firm(
+    near: &mut Vec<Broken>,
+    model: &Model,
+    items: &BTreeMap<u32, Placed>,
+    files: &Files,
+    item: &Placed,
+    parent: Option<Placed>,
+) -> Result<(), AllocError>
+    ensures { OnOk result (near.new.items ≡ near.old.items
+        ++ near_firm model.now (values_of items.now.entries) files.now item.now parent) }
+{
+    add_links(near, model, item)?;
+    add_parent(near, model, parent)?;
+    add_owners_among(near, items, files, model.kinds.as_slice(), item)?;
+    Ok(())
+}
+
+// Adds the orders of the parent, if there is one.
 fn add_parent(
     near: &mut Vec<Broken>,
     model: &Model,
     parent: Option<Placed>,
 ) -> Result<(), AllocError>
-    ensures { OnOk result (near.new.items ≡ near.old.items ++ all_of model.now parent) }
+    ensures { OnOk result (near.new.items ≡ near.old.items ++ own_orders model.now parent) }
 {
     match parent {
-        Some(parent) => add_all(near, model, &parent),
+        Some(parent) => add_orders(near, model, &parent),
         None => Ok(()),
     }
 }

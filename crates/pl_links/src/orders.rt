@@ -26,9 +26,13 @@ fn moment_in(
 fn is_unmet(store: &Store, gone: Option<u32>, parent: &Placed, order: &Order) -> bool
     ensures { result ≡ is_unmet (left gone store.now) parent.now order.now }
 {
-    let first = moment_in(store, gone, parent, order.first, order.first_end);
-    let second = moment_in(store, gone, parent, order.second, order.second_end);
-    are_misplaced(order.low, order.high, first, second)
+    match moment_in(store, gone, parent, order.first, order.first_end) {
+        Some(first) => {
+            let second = moment_in(store, gone, parent, order.second, order.second_end);
+            are_misplaced(order.low, order.high, Some(first), second)
+        }
+        None => false,
+    }
 }
 
 /// Whether the order of this index is not met, where one activity may be gone.

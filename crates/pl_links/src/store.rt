@@ -5,7 +5,7 @@ ghost use Rattle.pl_links.specs.Items.{AreRising, AreApart, IsPlaced};
 ghost use Rattle.pl_links.specs.Items.{item_of, with_item, without, child_of};
 ghost use Rattle.pl_links.specs.Broken.{is_partner};
 ghost use Rattle.pl_links.specs.Filed.{left, is_partner_of};
-ghost use Rattle.pl_links.specs.Near.{parent_of};
+ghost use Rattle.pl_links.specs.Near.{parent_of, firm_parent};
 ghost use Rattle.pl_links.specs.Sets.{broken_cmp, has};
 ghost use Rattle.pl_links.specs.Standing.{stands};
 ghost use Rattle.pl_links.specs.declared.broken.Broken.{Broken};
@@ -172,6 +172,16 @@ impl Store {
         }
     }
 
+    fn firm_parent(&self, item: &Placed) -> Option<Placed>
+        ensures { result ≡ firm_parent self.now item.now }
+    {
+        let _ = &self.items;
+        match item.end {
+            Some(_) => self.parent_of(item),
+            None => None,
+        }
+    }
+
     fn parent_of(&self, item: &Placed) -> Option<Placed>
         ensures { result ≡ parent_of self.now item.now.parent }
     {
@@ -199,7 +209,7 @@ impl Store {
             &self.items,
             &self.files,
             item,
-            self.parent_of(item),
+            self.firm_parent(item),
         )?;
         Ok(each_once(found))
     }
