@@ -30,8 +30,9 @@ use Rattle.pl_update.proofs.AboutTimelines.StandingLines.{told_all, all_told}
 use Rattle.pl_update.proofs.AboutTimelines.ReplacingLines.{rest_told, lines_after}
 use Rattle.pl_update.proofs.AboutTimelines.StandingLater.{lines_committed, told_committed}
 use Rattle.pl_update.specs.GoalsAndActivities.Near.{near, HoldSame, Follows}
-use Rattle.pl_update.specs.GoalsAndActivities.Touched.{touched_goals, touched_ids}
-use Rattle.pl_update.proofs.AboutGoalsAndActivities.Touching.{follows_plan, follows_same}
+use Rattle.pl_update.specs.GoalsAndActivities.Touched.{turned_goals, touched_ids}
+use Rattle.pl_update.proofs.AboutGoalsAndActivities.Touching.{follows_same}
+use Rattle.pl_update.proofs.AboutGoalsAndActivities.Turning.{follows_turned}
 use Rattle.pl_update.specs.Links.Mended.{MendsLinks, KeepsLinks}
 use Rattle.pl_links.specs.Kept.{kept_of}
 use Rattle.pl_semantics.specs.Links.{placed_in}
@@ -78,16 +79,16 @@ module _ (s : PlanState) (lines : List Line) (set : List Conflict) (gone once : 
   pub can_each : CanReplace s once more
   can_each = can_once s gone once more whole same can
 
-  pub stands_replaced : (t : PlanState) (rest full : List Line) (set1 set2 set3 : List Conflict) (numbers ids : List ℕ) (went came : List Conflict) → t ≡ with_plan once more s
+  pub stands_replaced : (t : PlanState) (rest full : List Line) (set1 set2 set3 : List Conflict) (ids : List ℕ) (went came : List Conflict) → t ≡ with_plan once more s
       → IsMended s lines rest set set1 → IsMoved lines rest (less (gone_from s once)) → IsMended t rest full set1 set2 → IsMoved rest full (asked_at (coming_to t more))
-      → HoldSame numbers (touched_goals s once more) → HoldSame ids (touched_ids s once more) → MendsLinks s t went came
-      → set3 ≡ exchanged set2 (near s numbers ids ++ went) (near t numbers ids ++ came) → Stands t full set3
-  stands_replaced t rest full set1 set2 set3 numbers ids went came e given left taken held same_numbers same_ids links exchange =
-      subst (λ (u : PlanState). IsMended u rest full set1 set2 → IsMoved rest full (asked_at (coming_to u more)) → MendsLinks s u went came → set3 ≡ exchanged set2 (near s numbers ids ++ went) (near u numbers ids ++ came) → Stands u full set3)
+      → HoldSame ids (touched_ids s once more) → MendsLinks s t went came
+      → set3 ≡ exchanged set2 (near s (turned_goals s once more) ids ++ went) (near t (turned_goals s once more) ids ++ came) → Stands t full set3
+  stands_replaced t rest full set1 set2 set3 ids went came e given left taken held same_ids links exchange =
+      subst (λ (u : PlanState). IsMended u rest full set1 set2 → IsMoved rest full (asked_at (coming_to u more)) → MendsLinks s u went came → set3 ≡ exchanged set2 (near s (turned_goals s once more) ids ++ went) (near u (turned_goals s once more) ids ++ came) → Stands u full set3)
       (sym e) core taken held links exchange
     where
       core : IsMended (with_plan once more s) rest full set1 set2 → IsMoved rest full (asked_at (coming_to (with_plan once more s) more)) → MendsLinks s (with_plan once more s) went came
-          → set3 ≡ exchanged set2 (near s numbers ids ++ went) (near (with_plan once more s) numbers ids ++ came) → Stands (with_plan once more s) full set3
+          → set3 ≡ exchanged set2 (near s (turned_goals s once more) ids ++ went) (near (with_plan once more s) (turned_goals s once more) ids ++ came) → Stands (with_plan once more s) full set3
       core taken2 held2 links2 exchange2 =
           let u : PlanState = with_plan once more s in
           let whole_t : IsWhole u = whole_replaced s once more whole can_each in
@@ -97,8 +98,8 @@ module _ (s : PlanState) (lines : List Line) (set : List Conflict) (gone once : 
           record {
             whole = whole_t;
             are = are_t;
-            found = exchange2 ∙ found_after s u numbers ids went came full set set2 whole whole_t is
-                (follows_same s u (touched_goals s once more) (touched_ids s once more) numbers ids (follows_plan s once more whole can_each) same_numbers same_ids)
+            found = exchange2 ∙ found_after s u (turned_goals s once more) ids went came full set set2 whole whole_t is
+                (follows_same s u (turned_goals s once more) (touched_ids s once more) (turned_goals s once more) ids (follows_turned s once more whole can_each) (λ n. refl) same_ids)
                 links2 (record { are = are_t; told = told2; others = λ q other. taken2.others q other ∙ given.others q other });
           }
 

@@ -22,7 +22,7 @@ impl WatchedState {
         let went = self.wrong_near(alloc, &touched)?;
         self.state.committed = h;
         let mended = pl_update::links::pass(alloc, &self.state, &self.conflicts)?;
-        self.turn(alloc, &touched, &went, &mended)?;
+        self.turn(alloc, &touched, went, &mended)?;
         Ok(())
     }
 

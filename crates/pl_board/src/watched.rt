@@ -20,7 +20,7 @@ use pl_plan::Activity;
 use pl_points::{Ledger, Steps};
 use pl_semantics::PlanState;
 use pl_update::evaluations::Evaluations;
-use pl_update::goals_and_activities::{Touched, each_once, near_kept, passed_by, touched_by};
+use pl_update::goals_and_activities::{Touched, each_once, near_kept, passed_by, turned_by};
 use pl_update::links::Mended;
 use pl_update::timelines::Lines;
 use std::alloc::{AllocError, Global};
@@ -55,6 +55,22 @@ impl WatchedState {
         })
     }
 
+    // What is wrong with the goals of these numbers and the activities of these ids.
+    fn wrong_at(
+        &self,
+        alloc: Global,
+        numbers: &[u32],
+        ids: &[u32],
+    ) -> Result<Vec<Conflict>, AllocError>
+        requires whole { IsWhole self.now.state }
+        requires values { AreOf self.now.state self.now.values }
+        ensures { IfOk result (λ all. all.items ≡ near self.now.state numbers.now ids.now) }
+    {
+        let mut all = Vec::new(alloc);
+        near_kept(&self.state, &self.values, numbers, ids, &mut all)?;
+        Ok(all)
+    }
+
     // What is wrong with goals and activities that a change touches.
     pub(crate) fn wrong_near(
         &self,
@@ -65,15 +81,7 @@ impl WatchedState {
         requires values { AreOf self.now.state self.now.values }
         ensures { IfOk result (λ all. all.items ≡ near self.now.state touched.now.numbers.items touched.now.ids.items) }
     {
-        let mut all = Vec::new(alloc);
-        near_kept(
-            &self.state,
-            &self.values,
-            &touched.numbers,
-            &touched.ids,
-            &mut all,
-        )?;
-        Ok(all)
+        self.wrong_at(alloc, &touched.numbers, &touched.ids)
     }
 
     // Puts what is wrong now in the place of what was wrong before the change.
@@ -81,20 +89,19 @@ impl WatchedState {
         &mut self,
         alloc: Global,
         touched: &Touched,
-        went: &[Conflict],
+        mut went: Vec<Conflict>,
         mended: &Mended,
     ) -> Result<(), AllocError>
         requires whole { IsWhole self.old.state }
         requires values { AreOf self.old.state self.old.values }
         ensures same { OnOk result (self.new ≡ record self.old { conflicts = self.new.conflicts }) }
-        ensures conflicts { OnOk result (self.new.conflicts ≡ exchanged self.old.conflicts (went.now ++ mended.now.went.items)
+        ensures conflicts { OnOk result (self.new.conflicts ≡ exchanged self.old.conflicts (went.items ++ mended.now.went.items)
             (near self.old.state touched.now.numbers.items touched.now.ids.items ++ mended.now.came.items)) }
     {
-        let mut all_went = went.to_vec(alloc)?;
-        all_went.extend_from_slice(mended.went.as_slice())?;
+        went.extend_from_slice(mended.went.as_slice())?;
         let mut came = self.wrong_near(alloc, touched)?;
         came.extend_from_slice(mended.came.as_slice())?;
-        self.conflicts.exchange(&all_went, &came)?;
+        self.conflicts.exchange(&went, &came)?;
         Ok(())
     }
 
@@ -111,8 +118,8 @@ impl WatchedState {
         ensures watched { OnOk result (IsWatched self.new) }
     {
         let gone = once(alloc, gone)?;
-        let touched = touched_by(alloc, &self.state, &gone, placed)?;
-        let went = self.wrong_near(alloc, &touched)?;
+        let turned = turned_by(alloc, &self.state, &gone, placed)?;
+        let went = self.wrong_at(alloc, &turned.met, &turned.after.ids)?;
         let given = asked_by(alloc, &self.state, &self.values, &gone)?;
         self.lines
             .give_back(&self.state, &given, &mut self.conflicts, steps)?;
@@ -127,7 +134,7 @@ impl WatchedState {
         let taken = asked_of(alloc, &self.state, &self.values, placed)?;
         self.lines
             .take_on(&self.state, &taken, &mut self.conflicts, steps)?;
-        self.turn(alloc, &touched, &went, &mended)?;
+        self.turn(alloc, &turned.after, went, &mended)?;
         Ok(())
     }
 
@@ -141,7 +148,7 @@ impl WatchedState {
         let touched = one_goal(alloc, goal.number)?;
         let went = self.wrong_near(alloc, &touched)?;
         self.state.goals.push(goal)?;
-        self.turn(alloc, &touched, &went, &no_links(alloc))?;
+        self.turn(alloc, &touched, went, &no_links(alloc))?;
         Ok(())
     }
 
@@ -154,7 +161,7 @@ impl WatchedState {
         let touched = one_goal(alloc, number)?;
         let went = self.wrong_near(alloc, &touched)?;
         self.state.goals.drop_goal(number);
-        self.turn(alloc, &touched, &went, &no_links(alloc))?;
+        self.turn(alloc, &touched, went, &no_links(alloc))?;
         Ok(())
     }
 
@@ -176,7 +183,7 @@ impl WatchedState {
             .advance(&self.state, now, &mut self.conflicts, steps)?;
         self.state.moment = now;
         let mended = pl_update::links::pass(alloc, &self.state, &self.conflicts)?;
-        self.turn(alloc, &touched, &went, &mended)?;
+        self.turn(alloc, &touched, went, &mended)?;
         Ok(())
     }
 

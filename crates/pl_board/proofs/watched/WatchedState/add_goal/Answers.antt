@@ -24,9 +24,9 @@ returns-clause-watched c =
     let is_lines : c.turn.new.self.lines ≡ w.lines = ap (λ (v : WatchedState). v.lines) same in
     let is_values : c.turn.new.self.values ≡ w.values = ap (λ (v : WatchedState). v.values) same in
     let is_links : c.turn.new.self.links ≡ w.links = ap (λ (v : WatchedState). v.links) same in
-    let found = stands_goal s t (record s { goals = c.push.new.self }) w.lines w.conflicts c.turn.new.self.conflicts c.args.goal.number c.in_ok-touched.touched.numbers.items c.in_ok-touched.touched.ids.items c.deref.result.now c.no_links.result.went.items c.no_links.result.came.items
+    let found = stands_goal s t (record s { goals = c.push.new.self }) w.lines w.conflicts c.turn.new.self.conflicts c.args.goal.number c.in_ok-touched.touched.numbers.items c.in_ok-touched.touched.ids.items c.in_ok-went.went.items c.no_links.result.went.items c.no_links.result.came.items
     c.requires.watched.whole c.requires.watched.timelines c.requires.watched.found is_t whole_t are_t (told_with_goal s c.args.goal w.lines w.conflicts) (follows_goal s c.args.goal c.requires.watched.whole) (keeps_with_goal s c.args.goal)
-    c.in_ok-touched.ensures.numbers c.in_ok-touched.ensures.ids (c.deref.ensures.value ∙ c.in_ok-went.ensures) c.no_links.ensures.went c.no_links.ensures.came c.in_ok-turn.ensures.conflicts in
+    c.in_ok-touched.ensures.numbers c.in_ok-touched.ensures.ids c.in_ok-went.ensures c.no_links.ensures.went c.no_links.ensures.came c.in_ok-turn.ensures.conflicts in
     record {
       whole = rw is_state whole_t;
       values = rw (is_state, is_values) c.requires.watched.values;

@@ -30,6 +30,6 @@ returns-clause-watched c =
     rw (c.in_ok-touched.ensures.numbers, c.in_ok-touched.ensures.ids, c.requires.watched.found) (follows_committed s c.args.h c.requires.watched.whole c.requires.least) in
     let found = stands_committed s c.args.h w.lines w.conflicts c.turn.new.self.conflicts numbers ids went came
     c.requires.watched.whole c.requires.watched.timelines c.requires.watched.found whole_t follows links
-    (c.in_ok-turn.ensures.conflicts ∙ ap (λ l. exchanged w.conflicts (l ++ went) (near t numbers ids ++ came)) (c.deref.ensures.value ∙ c.in_ok-went.ensures)) in
+    (c.in_ok-turn.ensures.conflicts ∙ ap (λ l. exchanged w.conflicts (l ++ went) (near t numbers ids ++ came)) c.in_ok-went.ensures) in
     watched_anew (record w { state = t }) c.turn.new.self whole_t c.requires.watched.values (lines_committed s c.args.h w.lines c.requires.watched.timelines)
     c.requires.watched.store c.in_ok-turn.ensures.same found

@@ -16,27 +16,29 @@ use Rattle.pl_update.proofs.AboutTimelines.ReplacingLines.{gone_askable, gone_he
 use Rattle.pl_board.proofs.Once.{can_once, once_rising, plan_once}
 use Rattle.pl_board.proofs.Watching.{stands_replaced}
 use Rattle.std.proofs.Common.{ℕ, ◌++◌, Some}
+use Rattle.pl_conflict.specs.declared.conflict.Conflict.{Conflict}
 use Rattle.pl_conflict.specs.Sorting.{exchanged}
 use Rattle.pl_update.specs.GoalsAndActivities.Near.{near, HoldSame}
-use Rattle.pl_update.specs.GoalsAndActivities.Touched.{touched_goals, touched_ids}
+use Rattle.pl_update.specs.GoalsAndActivities.Touched.{lost_goals, met_goals, turned_goals, touched_ids}
+use Rattle.pl_update.proofs.AboutGoalsAndActivities.Turning.{near_before, near_after}
 use Rattle.pl_update.specs.Evaluations.Kept.{AreOf}
 use Rattle.pl_board.specs.declared.watched.WatchedState.{WatchedState}
 use Rattle.pl_board.proofs.watched.WatchedState.replace.Goals as goal
 
-pub touched_by-requires-clause-live : goal.touched_by-requires-clause-live
-touched_by-requires-clause-live g c = rw c.deref.ensures.value (can_once c.args.self.now.state c.args.gone.now c.in_ok-gone.gone.items c.args.placed.now c.requires.watched.whole c.in_ok-gone.ensures.same c.requires.can).live
+pub turned_by-requires-clause-live : goal.turned_by-requires-clause-live
+turned_by-requires-clause-live g c = rw c.deref.ensures.value (can_once c.args.self.now.state c.args.gone.now c.in_ok-gone.gone.items c.args.placed.now c.requires.watched.whole c.in_ok-gone.ensures.same c.requires.can).live
 
 pub give_back-requires-clause-asked : goal.give_back-requires-clause-asked
 give_back-requires-clause-asked g c =
     let s = c.args.self.now.state in
-    let given : c.deref-3.result.now ≡ gone_from s c.in_ok-gone.gone.items = c.deref-3.ensures.value ∙ c.in_ok-given.ensures ∙ ap (gone_from s) c.deref-2.ensures.value in
+    let given : c.deref-5.result.now ≡ gone_from s c.in_ok-gone.gone.items = c.deref-5.ensures.value ∙ c.in_ok-given.ensures ∙ ap (gone_from s) c.deref-4.ensures.value in
     subst (All (CanAsk s c.args.self.now.lines)) (sym given) (gone_askable s c.in_ok-gone.gone.items c.requires.watched.whole c.args.self.now.lines c.requires.watched.timelines)
 
 pub give_back-requires-clause-held : goal.give_back-requires-clause-held
 give_back-requires-clause-held g c =
     let s = c.args.self.now.state in
     let once = c.in_ok-gone.gone.items in
-    let given : c.deref-3.result.now ≡ gone_from s once = c.deref-3.ensures.value ∙ c.in_ok-given.ensures ∙ ap (gone_from s) c.deref-2.ensures.value in
+    let given : c.deref-5.result.now ≡ gone_from s once = c.deref-5.ensures.value ∙ c.in_ok-given.ensures ∙ ap (gone_from s) c.deref-4.ensures.value in
     let can = can_once s c.args.gone.now once c.args.placed.now c.requires.watched.whole c.in_ok-gone.ensures.same c.requires.can in
     subst (HoldAll c.args.self.now.lines) (sym given) (gone_held s once c.args.placed.now c.requires.watched.whole can (once_rising once c.in_ok-gone.ensures.rising) c.args.self.now.lines c.requires.watched.timelines)
 
@@ -44,20 +46,20 @@ pub give_back-requires-clause-named : goal.give_back-requires-clause-named
 give_back-requires-clause-named g c = are_named c.args.self.now.state c.args.self.now.lines c.requires.watched.whole.rising c.requires.watched.timelines
 
 pub replace-requires-clause-can : goal.replace-requires-clause-can
-replace-requires-clause-can g c = rw c.deref-4.ensures.value (can_once c.args.self.now.state c.args.gone.now c.in_ok-gone.gone.items c.args.placed.now c.requires.watched.whole c.in_ok-gone.ensures.same c.requires.can)
+replace-requires-clause-can g c = rw c.deref-6.ensures.value (can_once c.args.self.now.state c.args.gone.now c.in_ok-gone.gone.items c.args.placed.now c.requires.watched.whole c.in_ok-gone.ensures.same c.requires.can)
 
 pub asked_of-requires-clause-whole : goal.asked_of-requires-clause-whole
 asked_of-requires-clause-whole g c =
     let s = c.args.self.now.state in
     let once = c.in_ok-gone.gone.items in
-    let is : c.replace.new.s ≡ with_plan once c.args.placed.now s = c.in_ok-mended.ensures.ok ∙ ap (λ ids. with_plan ids c.args.placed.now s) c.deref-4.ensures.value in
+    let is : c.replace.new.s ≡ with_plan once c.args.placed.now s = c.in_ok-mended.ensures.ok ∙ ap (λ ids. with_plan ids c.args.placed.now s) c.deref-6.ensures.value in
     rw is (whole_replaced s once c.args.placed.now c.requires.watched.whole (can_once s c.args.gone.now once c.args.placed.now c.requires.watched.whole c.in_ok-gone.ensures.same c.requires.can))
 
 pub asked_of-requires-clause-live : goal.asked_of-requires-clause-live
 asked_of-requires-clause-live g c =
     let s = c.args.self.now.state in
     let once = c.in_ok-gone.gone.items in
-    let is : c.replace.new.s ≡ with_plan once c.args.placed.now s = c.in_ok-mended.ensures.ok ∙ ap (λ ids. with_plan ids c.args.placed.now s) c.deref-4.ensures.value in
+    let is : c.replace.new.s ≡ with_plan once c.args.placed.now s = c.in_ok-mended.ensures.ok ∙ ap (λ ids. with_plan ids c.args.placed.now s) c.deref-6.ensures.value in
     subst (λ (u : PlanState). All (λ (a : Activity). activity_of a.id u.plan.activities ≡ Some a) c.args.placed.now) (sym is)
     (found_placed s once c.args.placed.now c.requires.watched.whole (can_once s c.args.gone.now once c.args.placed.now c.requires.watched.whole c.in_ok-gone.ensures.same c.requires.can))
 
@@ -67,11 +69,11 @@ take_on-requires-clause-asked g c =
     let once = c.in_ok-gone.gone.items in
     let more = c.args.placed.now in
     let rest = c.give_back.new.self in
-    let given : c.deref-3.result.now ≡ gone_from s once = c.deref-3.ensures.value ∙ c.in_ok-given.ensures ∙ ap (gone_from s) c.deref-2.ensures.value in
+    let given : c.deref-5.result.now ≡ gone_from s once = c.deref-5.ensures.value ∙ c.in_ok-given.ensures ∙ ap (gone_from s) c.deref-4.ensures.value in
     let can = can_once s c.args.gone.now once more c.requires.watched.whole c.in_ok-gone.ensures.same c.requires.can in
     let left : IsMoved c.args.self.now.lines rest (less (gone_from s once)) = subst (λ (ds : List Demand). IsMoved c.args.self.now.lines rest (less ds)) given c.in_ok-give_back.ensures.moved in
-    let is : c.replace.new.s ≡ with_plan once more s = c.in_ok-mended.ensures.ok ∙ ap (λ ids. with_plan ids more s) c.deref-4.ensures.value in
-    let taken : c.deref-5.result.now ≡ coming_to c.replace.new.s more = c.deref-5.ensures.value ∙ c.in_ok-taken.ensures in
+    let is : c.replace.new.s ≡ with_plan once more s = c.in_ok-mended.ensures.ok ∙ ap (λ ids. with_plan ids more s) c.deref-6.ensures.value in
+    let taken : c.deref-7.result.now ≡ coming_to c.replace.new.s more = c.deref-7.ensures.value ∙ c.in_ok-taken.ensures in
     subst (λ (ds : List Demand). All (CanAsk c.replace.new.s rest) ds) (sym taken)
     (subst (λ (u : PlanState). All (CanAsk u rest) (coming_to u more)) (sym is) (come_askable s once more c.requires.watched.whole can (once_rising once c.in_ok-gone.ensures.rising) c.args.self.now.lines rest c.requires.watched.timelines left))
 
@@ -81,11 +83,11 @@ take_on-requires-clause-room g c =
     let once = c.in_ok-gone.gone.items in
     let more = c.args.placed.now in
     let rest = c.give_back.new.self in
-    let given : c.deref-3.result.now ≡ gone_from s once = c.deref-3.ensures.value ∙ c.in_ok-given.ensures ∙ ap (gone_from s) c.deref-2.ensures.value in
+    let given : c.deref-5.result.now ≡ gone_from s once = c.deref-5.ensures.value ∙ c.in_ok-given.ensures ∙ ap (gone_from s) c.deref-4.ensures.value in
     let can = can_once s c.args.gone.now once more c.requires.watched.whole c.in_ok-gone.ensures.same c.requires.can in
     let left : IsMoved c.args.self.now.lines rest (less (gone_from s once)) = subst (λ (ds : List Demand). IsMoved c.args.self.now.lines rest (less ds)) given c.in_ok-give_back.ensures.moved in
-    let is : c.replace.new.s ≡ with_plan once more s = c.in_ok-mended.ensures.ok ∙ ap (λ ids. with_plan ids more s) c.deref-4.ensures.value in
-    let taken : c.deref-5.result.now ≡ coming_to c.replace.new.s more = c.deref-5.ensures.value ∙ c.in_ok-taken.ensures in
+    let is : c.replace.new.s ≡ with_plan once more s = c.in_ok-mended.ensures.ok ∙ ap (λ ids. with_plan ids more s) c.deref-6.ensures.value in
+    let taken : c.deref-7.result.now ≡ coming_to c.replace.new.s more = c.deref-7.ensures.value ∙ c.in_ok-taken.ensures in
     subst (λ (ds : List Demand). HaveRoom rest ds) (sym taken)
     (subst (λ (u : PlanState). HaveRoom rest (coming_to u more)) (sym is) (rest_room s once more c.requires.watched.whole can (once_rising once c.in_ok-gone.ensures.rising) c.args.self.now.lines rest c.requires.watched.timelines left))
 
@@ -95,17 +97,17 @@ take_on-requires-clause-named g c =
     let once = c.in_ok-gone.gone.items in
     let more = c.args.placed.now in
     let rest = c.give_back.new.self in
-    let given : c.deref-3.result.now ≡ gone_from s once = c.deref-3.ensures.value ∙ c.in_ok-given.ensures ∙ ap (gone_from s) c.deref-2.ensures.value in
+    let given : c.deref-5.result.now ≡ gone_from s once = c.deref-5.ensures.value ∙ c.in_ok-given.ensures ∙ ap (gone_from s) c.deref-4.ensures.value in
     let can = can_once s c.args.gone.now once more c.requires.watched.whole c.in_ok-gone.ensures.same c.requires.can in
     let left : IsMoved c.args.self.now.lines rest (less (gone_from s once)) = subst (λ (ds : List Demand). IsMoved c.args.self.now.lines rest (less ds)) given c.in_ok-give_back.ensures.moved in
-    let is : c.replace.new.s ≡ with_plan once more s = c.in_ok-mended.ensures.ok ∙ ap (λ ids. with_plan ids more s) c.deref-4.ensures.value in
+    let is : c.replace.new.s ≡ with_plan once more s = c.in_ok-mended.ensures.ok ∙ ap (λ ids. with_plan ids more s) c.deref-6.ensures.value in
     subst (λ (u : PlanState). AreNamed u rest) (sym is) (rest_named s once more c.requires.watched.whole can (once_rising once c.in_ok-gone.ensures.rising) c.args.self.now.lines rest c.requires.watched.timelines left)
 
 pub turn-requires-clause-whole : goal.turn-requires-clause-whole
 turn-requires-clause-whole g c =
     let s = c.args.self.now.state in
     let once = c.in_ok-gone.gone.items in
-    let is : c.replace.new.s ≡ with_plan once c.args.placed.now s = c.in_ok-mended.ensures.ok ∙ ap (λ ids. with_plan ids c.args.placed.now s) c.deref-4.ensures.value in
+    let is : c.replace.new.s ≡ with_plan once c.args.placed.now s = c.in_ok-mended.ensures.ok ∙ ap (λ ids. with_plan ids c.args.placed.now s) c.deref-6.ensures.value in
     rw is (whole_replaced s once c.args.placed.now c.requires.watched.whole (can_once s c.args.gone.now once c.args.placed.now c.requires.watched.whole c.in_ok-gone.ensures.same c.requires.can))
 
 pub returns-clause-state : goal.returns-clause-state
@@ -113,7 +115,7 @@ returns-clause-state g c =
     let s = c.args.self.now.state in
     let once = c.in_ok-gone.gone.items in
     let more = c.args.placed.now in
-    let is : c.replace.new.s ≡ with_plan once more s = c.in_ok-mended.ensures.ok ∙ ap (λ ids. with_plan ids more s) c.deref-4.ensures.value in
+    let is : c.replace.new.s ≡ with_plan once more s = c.in_ok-mended.ensures.ok ∙ ap (λ ids. with_plan ids more s) c.deref-6.ensures.value in
     ap (λ (v : WatchedState). v.state) c.in_ok-turn.ensures.same ∙ is ∙ plan_once s c.args.gone.now once more c.requires.watched.whole c.in_ok-gone.ensures.same
 
 pub returns-clause-watched : goal.returns-clause-watched
@@ -125,18 +127,31 @@ returns-clause-watched g c =
     let rest = c.give_back.new.self in
     let full = c.take_on.new.self in
     let t = c.replace.new.s in
-    let given : c.deref-3.result.now ≡ gone_from s once = c.deref-3.ensures.value ∙ c.in_ok-given.ensures ∙ ap (gone_from s) c.deref-2.ensures.value in
+    let given : c.deref-5.result.now ≡ gone_from s once = c.deref-5.ensures.value ∙ c.in_ok-given.ensures ∙ ap (gone_from s) c.deref-4.ensures.value in
     let left : IsMoved w.lines rest (less (gone_from s once)) = subst (λ (ds : List Demand). IsMoved w.lines rest (less ds)) given c.in_ok-give_back.ensures.moved in
-    let is : t ≡ with_plan once more s = c.in_ok-mended.ensures.ok ∙ ap (λ ids. with_plan ids more s) c.deref-4.ensures.value in
-    let taken : c.deref-5.result.now ≡ coming_to t more = c.deref-5.ensures.value ∙ c.in_ok-taken.ensures in
+    let is : t ≡ with_plan once more s = c.in_ok-mended.ensures.ok ∙ ap (λ ids. with_plan ids more s) c.deref-6.ensures.value in
+    let taken : c.deref-7.result.now ≡ coming_to t more = c.deref-7.ensures.value ∙ c.in_ok-taken.ensures in
     let held : IsMoved rest full (asked_at (coming_to t more)) = subst (λ (ds : List Demand). IsMoved rest full (asked_at ds)) taken c.in_ok-take_on.ensures.moved in
-    let numbers : HoldSame c.in_ok-touched.touched.numbers.items (touched_goals s once more) = subst (λ (ids : List ℕ). HoldSame c.in_ok-touched.touched.numbers.items (touched_goals s ids more)) c.deref.ensures.value c.in_ok-touched.ensures.numbers in
-    let ids : HoldSame c.in_ok-touched.touched.ids.items (touched_ids s once more) = subst (λ (l : List ℕ). HoldSame c.in_ok-touched.touched.ids.items (touched_ids s l more)) c.deref.ensures.value c.in_ok-touched.ensures.ids in
-    let exchange : c.turn.new.self.conflicts ≡ exchanged c.take_on.new.set (near s c.in_ok-touched.touched.numbers.items c.in_ok-touched.touched.ids.items ++ c.in_ok-mended.mended.went.items) (near t c.in_ok-touched.touched.numbers.items c.in_ok-touched.touched.ids.items ++ c.in_ok-mended.mended.came.items) =
-    c.in_ok-turn.ensures.conflicts ∙ ap (λ l. exchanged c.take_on.new.set (l ++ c.in_ok-mended.mended.went.items) (near t c.in_ok-touched.touched.numbers.items c.in_ok-touched.touched.ids.items ++ c.in_ok-mended.mended.came.items)) (c.deref-6.ensures.value ∙ c.in_ok-went.ensures) in
+    let numbers : List ℕ = turned_goals s once more in
+    let ids : List ℕ = c.in_ok-turned.turned.after.ids.items in
+    let went : List Conflict = c.in_ok-mended.mended.went.items in
+    let came : List Conflict = c.in_ok-mended.mended.came.items in
+    let can = can_once s c.args.gone.now once more c.requires.watched.whole c.in_ok-gone.ensures.same c.requires.can in
+    let same_ids : HoldSame ids (touched_ids s once more) = subst (λ (l : List ℕ). HoldSame ids (touched_ids s l more)) c.deref.ensures.value c.in_ok-turned.ensures.ids in
+    let left_behind : c.in_ok-went.went.items ≡ near s numbers ids =
+    c.in_ok-went.ensures
+    ∙ (ap (λ l. near s l c.deref-3.result.now) (c.deref-2.ensures.value ∙ c.in_ok-turned.ensures.met ∙ ap (λ l. met_goals s l more) c.deref.ensures.value)
+    ∙ (ap (near s (met_goals s once more)) c.deref-3.ensures.value ∙ near_before s once more c.requires.watched.whole can ids)) in
+    let stand_now : near t c.in_ok-turned.turned.after.numbers.items ids ≡ near t numbers ids =
+    ap (λ l. near t l ids) (c.in_ok-turned.ensures.lost ∙ ap (λ l. lost_goals s l more) c.deref.ensures.value)
+    ∙ subst (λ (u : PlanState). near u (lost_goals s once more) ids ≡ near u numbers ids) (sym is) (near_after s once more c.requires.watched.whole can ids) in
+    let exchange : c.turn.new.self.conflicts ≡ exchanged c.take_on.new.set (near s numbers ids ++ went) (near t numbers ids ++ came) =
+    c.in_ok-turn.ensures.conflicts
+    ∙ (ap (λ l. exchanged c.take_on.new.set (l ++ went) (near t c.in_ok-turned.turned.after.numbers.items ids ++ came)) left_behind
+    ∙ ap (λ l. exchanged c.take_on.new.set (near s numbers ids ++ went) (l ++ came)) stand_now) in
     let stands = stands_replaced s w.lines w.conflicts c.args.gone.now once more c.requires.watched.whole c.requires.watched.timelines c.requires.watched.found c.requires.can c.in_ok-gone.ensures.same c.in_ok-gone.ensures.rising
-    t rest full c.give_back.new.set c.take_on.new.set c.turn.new.self.conflicts c.in_ok-touched.touched.numbers.items c.in_ok-touched.touched.ids.items c.in_ok-mended.mended.went.items c.in_ok-mended.mended.came.items
-    is c.in_ok-give_back.ensures.mended left c.in_ok-take_on.ensures.mended held numbers ids c.in_ok-mended.ensures.mended exchange in
+    t rest full c.give_back.new.set c.take_on.new.set c.turn.new.self.conflicts ids went came
+    is c.in_ok-give_back.ensures.mended left c.in_ok-take_on.ensures.mended held same_ids c.in_ok-mended.ensures.mended exchange in
     let kept : AreOf t c.replace.new.values = c.in_ok-mended.ensures.values in
     let same = c.in_ok-turn.ensures.same in
     let is_state : c.turn.new.self.state ≡ t = ap (λ (v : WatchedState). v.state) same in

@@ -44,7 +44,7 @@ returns-clause-watched g c =
     rw (c.in_ok-touched.ensures.numbers, c.in_ok-touched.ensures.ids, c.requires.watched.found) (follows_moved s c.requires.watched.whole c.args.now c.requires.later) in
     let found = stands_moved s t w.lines full w.conflicts c.advance.new.set c.turn.new.self.conflicts c.in_ok-touched.touched.numbers.items c.in_ok-touched.touched.ids.items c.in_ok-mended.mended.went.items c.in_ok-mended.mended.came.items
     c.requires.watched.whole c.requires.watched.timelines c.requires.watched.found whole_t are_t mended (told_moved s c.args.now full c.advance.new.set) follows links
-    (c.in_ok-turn.ensures.conflicts ∙ ap (λ l. exchanged c.advance.new.set (l ++ c.in_ok-mended.mended.went.items) (near t c.in_ok-touched.touched.numbers.items c.in_ok-touched.touched.ids.items ++ c.in_ok-mended.mended.came.items)) (c.deref.ensures.value ∙ c.in_ok-went.ensures)) in
+    (c.in_ok-turn.ensures.conflicts ∙ ap (λ l. exchanged c.advance.new.set (l ++ c.in_ok-mended.mended.went.items) (near t c.in_ok-touched.touched.numbers.items c.in_ok-touched.touched.ids.items ++ c.in_ok-mended.mended.came.items)) c.in_ok-went.ensures) in
     let same = c.in_ok-turn.ensures.same in
     let is_state : c.turn.new.self.state ≡ t = ap (λ (v : WatchedState). v.state) same in
     let is_lines : c.turn.new.self.lines ≡ full = ap (λ (v : WatchedState). v.lines) same in
