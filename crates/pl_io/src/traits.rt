@@ -33,7 +33,10 @@ pub trait Sink {
 
     /// Whether what it takes goes anywhere. For a sink that loses all that it takes no text need be made.
     fn keeps(&self) -> bool
-        ensures { result ≡ false → held self.now ≡ None };
+        ensures { result ≡ false → held self.now ≡ None }
+    {
+        true
+    }
 
     /// Takes bytes from the front of the piece and answers how many, at least 1.
     /// A failed write takes none.

@@ -21,10 +21,11 @@ use Rattle.pl_links.specs.Items.{is_slot, fills, AreRising, item_of, without, ch
 use Rattle.pl_links.specs.Broken.{moment_of, is_apart, are_apart, is_partner, lacks_partner, moment_in, is_unmet, are_misplaced, is_link_broken, is_order_broken, links_in, links_of, orders_of}
 use Rattle.pl_links.specs.Laws.{fails_at}
 use Rattle.pl_links.specs.Keys.{link_at, has_key}
+use Rattle.pl_links.specs.Asked.{is_asked}
 use Rattle.pl_links.specs.Filed.{AreFiles, point_place}
 use Rattle.pl_links.specs.Standing.{stands_at, stands}
 use Rattle.pl_links.specs.Sets.{broken_cmp, has}
-use Rattle.pl_links.specs.Near.{all_below, all_of, parent_of, keys_at, owners_at, owners_of, owners_in, owners_among, near}
+use Rattle.pl_links.specs.Near.{all_below, all_of, parent_of, keys_at, owners_at, link_of, owners_all, owners_of, owners_in, owners_among, near}
 use Rattle.pl_links.proofs.Anys.{any_from, any_found, any_filter}
 use Rattle.pl_links.proofs.Keyed.{key, contained}
 use Rattle.pl_links.proofs.Filed.{item-without}
@@ -87,13 +88,13 @@ find_without f p (x ∷ items) here e = cases (eqb x.id p.id) refl (find_without
 
 -- ---- the owners to whom the activity is a partner
 
-any_map : (f : Broken → Bool) (g : Key → Broken) (keys : List Key) → list_any f (map g keys) ≡ list_any (λ k. f (g k)) keys
+any_map : {X : Type 0} (f : Broken → Bool) (g : X → Broken) (xs : List X) → list_any f (map g xs) ≡ list_any (λ x. f (g x)) xs
 any_map f g [] = refl
-any_map f g (k ∷ keys) = ap (λ b. f (g k) || b) (any_map f g keys)
+any_map f g (x ∷ xs) = ap (λ b. f (g x) || b) (any_map f g xs)
 
-index_of : (items : List Placed) (files : Files) → AreFiles items files → (point : Point) (group number : ℕ) (p : Placed) → item_of p.id items ≡ Some p → point_place point p ≡ Some (group, number) → has_key (key group number p.id) (keys_at point files) ≡ true
-index_of items files filed Start group number p here is = has_filed (point_place Start) items files.starts group number p filed.starts here is
-index_of items files filed End group number p here is = has_filed (point_place End) items files.ends group number p filed.ends here is
+index_of : (items : List Placed) (files : Files) → AreFiles items files → (point : Point) (group number : ℕ) (p : Placed) → item_of p.id items ≡ Some p → point_place files.asked point p ≡ Some (group, number) → has_key (key group number p.id) (keys_at point files) ≡ true
+index_of items files filed Start group number p here is = has_filed (point_place files.asked Start) items files.starts group number p filed.starts here is
+index_of items files filed End group number p here is = has_filed (point_place files.asked End) items files.ends group number p filed.ends here is
 
 both_moments : (low high : ℤ) (a b : Option ℕ) → are_apart low high a b ≡ true → (m : ℕ) × (t : ℕ) × (a ≡ Some m) × (b ≡ Some t) × (is_apart low high m t ≡ true)
 both_moments low high None b e = absurd (let h : false ≡ true = e in (cc))
@@ -101,58 +102,74 @@ both_moments low high (Some m) None e = absurd (let h : false ≡ true = e in (c
 both_moments low high (Some m) (Some t) e = (m, t, refl, refl, e)
 
 module _ (items : List Placed) (files : Files) (filed : AreFiles items files) (p own : Placed) (placed : item_of own.id items ≡ Some own) where
-  owner_has : (link : Link) (index : ℕ) → is_partner link own p ≡ true → has (broken own.id index false) (owners_of files own.kind link index p) ≡ true
+  owner_has : (link : Link) (index : ℕ) → is_partner link own p ≡ true → has (broken own.id index false) (owners_of items files own.kind link index p) ≡ true
   owner_has link index e =
       let parts = and_parts (not (eqb p.id own.id)) (eqb p.kind link.kind && are_apart link.low link.high (moment_of link.mine own) (moment_of link.theirs p)) e in
       let more = and_parts (eqb p.kind link.kind) (are_apart link.low link.high (moment_of link.mine own) (moment_of link.theirs p)) parts.1 in
-      let moments = both_moments link.low link.high (moment_of link.mine own) (moment_of link.theirs p) more.1 in
-      let m = moments.0 in
-      let t = moments.1 in
-      let b = broken own.id index false in
-      let keys = keys_at link.mine files in
-      let k = key own.kind m own.id in
-      let in_keys : has_key k keys ≡ true = index_of items files filed link.mine own.kind m own placed (place_at link.mine own m moments.2) in
-      let passes : ((eqb own.kind own.kind && is_apart link.low link.high m t) && is_at (broken_cmp b) (link_at index k)) ≡ true =
-      and_from (eqb own.kind own.kind && is_apart link.low link.high m t) (is_at (broken_cmp b) (link_at index k))
-      (and_from (eqb own.kind own.kind) (is_apart link.low link.high m t) (eq-eqb own.kind own.kind refl) moments.4) (itself b) in
-      let found : list_any (λ q. (eqb q.group own.kind && is_apart link.low link.high q.number t) && is_at (broken_cmp b) (link_at index q)) keys ≡ true =
-      any_from (λ q. (eqb q.group own.kind && is_apart link.low link.high q.number t) && is_at (broken_cmp b) (link_at index q)) keys k (contained k keys in_keys) passes in
-      let all : has b (owners_at keys own.kind link index (Some t)) ≡ true =
-      any_map (is_at (broken_cmp b)) (link_at index) (filter (λ q. eqb q.group own.kind && is_apart link.low link.high q.number t) keys)
-      ∙ any_filter (λ q. eqb q.group own.kind && is_apart link.low link.high q.number t) (λ q. is_at (broken_cmp b) (link_at index q)) keys
-      ∙ found in
-      rw (more.0, moments.3) all
+      rw more.0 (cases (is_asked files.asked link.mine own.kind) refl more.1)
+    where
+      by_moment : is_asked files.asked link.mine own.kind ≡ true → are_apart link.low link.high (moment_of link.mine own) (moment_of link.theirs p) ≡ true → has (broken own.id index false) (owners_at (keys_at link.mine files) own.kind link index (moment_of link.theirs p)) ≡ true
+      by_moment on apart =
+          let moments = both_moments link.low link.high (moment_of link.mine own) (moment_of link.theirs p) apart in
+          let m = moments.0 in
+          let t = moments.1 in
+          let b = broken own.id index false in
+          let keys = keys_at link.mine files in
+          let k = key own.kind m own.id in
+          let in_keys : has_key k keys ≡ true = index_of items files filed link.mine own.kind m own placed (place_at files.asked link.mine own m on moments.2) in
+          let passes : ((eqb own.kind own.kind && is_apart link.low link.high m t) && is_at (broken_cmp b) (link_at index k)) ≡ true =
+          and_from (eqb own.kind own.kind && is_apart link.low link.high m t) (is_at (broken_cmp b) (link_at index k))
+          (and_from (eqb own.kind own.kind) (is_apart link.low link.high m t) (eq-eqb own.kind own.kind refl) moments.4) (itself b) in
+          let found : list_any (λ q. (eqb q.group own.kind && is_apart link.low link.high q.number t) && is_at (broken_cmp b) (link_at index q)) keys ≡ true =
+          any_from (λ q. (eqb q.group own.kind && is_apart link.low link.high q.number t) && is_at (broken_cmp b) (link_at index q)) keys k (contained k keys in_keys) passes in
+          let all : has b (owners_at keys own.kind link index (Some t)) ≡ true =
+          any_map (is_at (broken_cmp b)) (link_at index) (filter (λ q. eqb q.group own.kind && is_apart link.low link.high q.number t) keys)
+          ∙ any_filter (λ q. eqb q.group own.kind && is_apart link.low link.high q.number t) (λ q. is_at (broken_cmp b) (link_at index q)) keys
+          ∙ found in
+          rw moments.3 all
 
-  owners_have : (links : List Link) (i base : ℕ) (link : Link) → slice_get links i ≡ Some link → is_partner link own p ≡ true → has (broken own.id (base + i) false) (owners_in files own.kind links base p) ≡ true
+      walked : has (broken own.id index false) (owners_all items own.kind index) ≡ true
+      walked =
+          let b = broken own.id index false in
+          any_map (is_at (broken_cmp b)) (link_of index) (filter (λ q. eqb q.kind own.kind) items)
+          ∙ any_filter (λ q. eqb q.kind own.kind) (λ q. is_at (broken_cmp b) (link_of index q)) items
+          ∙ any_from (λ q. eqb q.kind own.kind && is_at (broken_cmp b) (link_of index q)) items own (item_is own.id items own placed).0
+          (and_from (eqb own.kind own.kind) (is_at (broken_cmp b) (link_of index own)) (eq-eqb own.kind own.kind refl) (itself b))
+
+      cases : (t : Bool) → is_asked files.asked link.mine own.kind ≡ t → are_apart link.low link.high (moment_of link.mine own) (moment_of link.theirs p) ≡ true → has (broken own.id index false) (cond t (owners_at (keys_at link.mine files) own.kind link index (moment_of link.theirs p)) (owners_all items own.kind index)) ≡ true
+      cases true on apart = by_moment on apart
+      cases false off apart = walked
+
+  owners_have : (links : List Link) (i base : ℕ) (link : Link) → slice_get links i ≡ Some link → is_partner link own p ≡ true → has (broken own.id (base + i) false) (owners_in items files own.kind links base p) ≡ true
   owners_have [] i base link at e = absurd (let h : None ≡ Some link = at in (cc))
   owners_have (l ∷ links) zero base link at e =
       let same : Some l ≡ Some link = at in
       let is : link ≡ l = cc in
-      let here : has (broken own.id base false) (owners_of files own.kind l base p) ≡ true = owner_has l base (subst (λ x. is_partner x own p ≡ true) is e) in
-      subst (λ n. has (broken own.id n false) (owners_in files own.kind (l ∷ links) base p) ≡ true) (let sum : base ≡ base + 0 = omega arith in sum)
-      (has_left (broken own.id base false) (owners_of files own.kind l base p) (owners_in files own.kind links (base + 1) p) here)
+      let here : has (broken own.id base false) (owners_of items files own.kind l base p) ≡ true = owner_has l base (subst (λ x. is_partner x own p ≡ true) is e) in
+      subst (λ n. has (broken own.id n false) (owners_in items files own.kind (l ∷ links) base p) ≡ true) (let sum : base ≡ base + 0 = omega arith in sum)
+      (has_left (broken own.id base false) (owners_of items files own.kind l base p) (owners_in items files own.kind links (base + 1) p) here)
   owners_have (l ∷ links) (suc i) base link at e =
-      let later : has (broken own.id ((base + 1) + i) false) (owners_in files own.kind links (base + 1) p) ≡ true = owners_have links i (base + 1) link at e in
-      subst (λ n. has (broken own.id n false) (owners_in files own.kind (l ∷ links) base p) ≡ true) (let sum : (base + 1) + i ≡ base + suc i = omega arith in sum)
-      (has_right (broken own.id ((base + 1) + i) false) (owners_of files own.kind l base p) (owners_in files own.kind links (base + 1) p) later)
+      let later : has (broken own.id ((base + 1) + i) false) (owners_in items files own.kind links (base + 1) p) ≡ true = owners_have links i (base + 1) link at e in
+      subst (λ n. has (broken own.id n false) (owners_in items files own.kind (l ∷ links) base p) ≡ true) (let sum : (base + 1) + i ≡ base + suc i = omega arith in sum)
+      (has_right (broken own.id ((base + 1) + i) false) (owners_of items files own.kind l base p) (owners_in items files own.kind links (base + 1) p) later)
 
-  kinds_have : (kinds : List Kind) (i base index : ℕ) (kind : Kind) → base + i ≡ own.kind → slice_get kinds i ≡ Some kind → has (broken own.id index false) (owners_in files own.kind kind.links 0 p) ≡ true → has (broken own.id index false) (owners_among files kinds base p) ≡ true
+  kinds_have : (kinds : List Kind) (i base index : ℕ) (kind : Kind) → base + i ≡ own.kind → slice_get kinds i ≡ Some kind → has (broken own.id index false) (owners_in items files own.kind kind.links 0 p) ≡ true → has (broken own.id index false) (owners_among items files kinds base p) ≡ true
   kinds_have [] i base index kind sum at e = absurd (let h : None ≡ Some kind = at in (cc))
   kinds_have (x ∷ kinds) zero base index kind sum at e =
       let same : Some x ≡ Some kind = at in
       let is : kind ≡ x = cc in
       let group : own.kind ≡ base = omega (arith, sum) in
-      has_left (broken own.id index false) (owners_in files base x.links 0 p) (owners_among files kinds (base + 1) p)
-      (subst (λ g. has (broken own.id index false) (owners_in files g x.links 0 p) ≡ true) group (subst (λ (y : Kind). has (broken own.id index false) (owners_in files own.kind y.links 0 p) ≡ true) is e))
+      has_left (broken own.id index false) (owners_in items files base x.links 0 p) (owners_among items files kinds (base + 1) p)
+      (subst (λ g. has (broken own.id index false) (owners_in items files g x.links 0 p) ≡ true) group (subst (λ (y : Kind). has (broken own.id index false) (owners_in items files own.kind y.links 0 p) ≡ true) is e))
   kinds_have (x ∷ kinds) (suc i) base index kind sum at e =
-      has_right (broken own.id index false) (owners_in files base x.links 0 p) (owners_among files kinds (base + 1) p)
+      has_right (broken own.id index false) (owners_in items files base x.links 0 p) (owners_among items files kinds (base + 1) p)
       (kinds_have kinds i (base + 1) index kind (omega (arith, sum)) at e)
 
-  link_has : (model : Model) (kind : Option Kind) → slice_get model.kinds own.kind ≡ kind → (index : ℕ) (link : Link) → slice_get (links_in kind) index ≡ Some link → is_partner link own p ≡ true → has (broken own.id index false) (owners_among files model.kinds 0 p) ≡ true
+  link_has : (model : Model) (kind : Option Kind) → slice_get model.kinds own.kind ≡ kind → (index : ℕ) (link : Link) → slice_get (links_in kind) index ≡ Some link → is_partner link own p ≡ true → has (broken own.id index false) (owners_among items files model.kinds 0 p) ≡ true
   link_has model None is index link at e = absurd (let h : None ≡ Some link = at in (cc))
   link_has model (Some kind) is index link at e =
       kinds_have model.kinds own.kind 0 index kind (omega arith) is
-      (subst (λ n. has (broken own.id n false) (owners_in files own.kind kind.links 0 p) ≡ true) (let sum : 0 + index ≡ index = omega arith in sum) (owners_have kind.links index 0 link at e))
+      (subst (λ n. has (broken own.id n false) (owners_in items files own.kind kind.links 0 p) ≡ true) (let sum : 0 + index ≡ index = omega arith in sum) (owners_have kind.links index 0 link at e))
 
 -- ---- the law
 
@@ -169,11 +186,11 @@ module _ (model : Model) (items : List Placed) (files : Files) (p : Placed) (ris
   rest = without p.id items
 
   abbrev all : List Broken
-  all = near model files p (parent_of items p.parent)
+  all = near model items files p (parent_of items p.parent)
 
-  parts : (b : Broken) → has b all ≡ false → (has b (all_of model (Some p)) ≡ false) × (has b (all_of model (parent_of items p.parent)) ≡ false) × (has b (owners_among files model.kinds 0 p) ≡ false)
+  parts : (b : Broken) → has b all ≡ false → (has b (all_of model (Some p)) ≡ false) × (has b (all_of model (parent_of items p.parent)) ≡ false) × (has b (owners_among items files model.kinds 0 p) ≡ false)
   parts b off =
-      let last = not_has b (all_of model (Some p) ++ all_of model (parent_of items p.parent)) (owners_among files model.kinds 0 p) off in
+      let last = not_has b (all_of model (Some p) ++ all_of model (parent_of items p.parent)) (owners_among items files model.kinds 0 p) off in
       let first = not_has b (all_of model (Some p)) (all_of model (parent_of items p.parent)) last.0 in
       (first.0, first.1, last.1)
 
@@ -225,7 +242,7 @@ module _ (model : Model) (items : List Placed) (files : Files) (p : Placed) (ris
       subst (λ i. has (broken i b.index b.slots) (all_of model (Some p)) ≡ true) is (has_below p.id (max (length (links_of model p)) (length (orders_of model p))) b.index b.slots lt)
 
   -- what is not near an activity stands with it where it stands without it
-  pub covers : (b : Broken) → has b (near model files p (parent_of items p.parent)) ≡ false → stands model items b ≡ stands model (without p.id items) b
+  pub covers : (b : Broken) → has b (near model items files p (parent_of items p.parent)) ≡ false → stands model items b ≡ stands model (without p.id items) b
   covers b off = cases (eqb p.id b.id) refl
     where
       found : (o : Option Placed) → item_of b.id items ≡ o → item_of b.id rest ≡ item_of b.id items → stands model items b ≡ stands model rest b

@@ -10,12 +10,14 @@ use Rattle.std.proofs.Math.Bool.{and-true}
 use Rattle.pl_lists.proofs.Tests.{same_test}
 use Rattle.pl_model.specs.declared.reservations.Point.{Point}
 use Rattle.pl_model.specs.declared.links.Link.{Link}
+use Rattle.pl_links.specs.declared.asked.Asked.{Asked}
 use Rattle.pl_links.specs.declared.keys.Key.{Key}
 use Rattle.pl_links.specs.declared.placed.Placed.{Placed}
 use Rattle.pl_links.specs.Items.{is_slot, AreRising, AreApart, item_of, without, child_of}
 use Rattle.pl_links.specs.Broken.{moment_of, is_apart, are_apart, is_partner}
 use Rattle.pl_links.specs.Keys.{has_key, is_filed, is_other, IsIndexOf}
-use Rattle.pl_links.specs.Filed.{point_place, parent_place, left}
+use Rattle.pl_links.specs.Asked.{is_asked}
+use Rattle.pl_links.specs.Filed.{point_place, parent_place, left, is_partner_of, is_partner_but}
 use Rattle.pl_links.proofs.Ids.{found_at, rising-without}
 use Rattle.pl_links.proofs.Slots.{apart-without, only_child, place_is, slot_is}
 use Rattle.pl_links.proofs.Filed.{item-without}
@@ -142,8 +144,8 @@ module _ (gone : Option ℕ) (items : List Placed) (children : List Key) (rising
 
 -- ---- a partner
 
-pub point_is : (point : Point) (p : Placed) (group number : ℕ) → point_place point p ≡ Some (group, number) → (p.kind ≡ group) × (moment_of point p ≡ Some number)
-point_is point p group number = cases (moment_of point p)
+pub point_is : (asked : Asked) (point : Point) (p : Placed) (group number : ℕ) → point_place asked point p ≡ Some (group, number) → (p.kind ≡ group) × (moment_of point p ≡ Some number)
+point_is asked point p group number = filed (is_asked asked point p.kind)
   where
     cases : (o : Option ℕ) → option_map {U = ℕ × ℕ} (λ m. (p.kind, m)) o ≡ Some (group, number) → (p.kind ≡ group) × (o ≡ Some number)
     cases None e = absurd (let h : None ≡ Some (group, number) = e in (cc))
@@ -152,8 +154,12 @@ point_is point p group number = cases (moment_of point p)
         let same : (p.kind, m) ≡ (group, number) = cc in
         (ap (λ (q : ℕ × ℕ). q.0) same, ap (λ (q : ℕ × ℕ). Some q.1) same)
 
-pub place_at : (point : Point) (p : Placed) (number : ℕ) → moment_of point p ≡ Some number → point_place point p ≡ Some (p.kind, number)
-place_at point p number e = ap (option_map {U = ℕ × ℕ} (λ m. (p.kind, m))) e
+    filed : (b : Bool) → cond b (option_map {U = ℕ × ℕ} (λ m. (p.kind, m)) (moment_of point p)) None ≡ Some (group, number) → (p.kind ≡ group) × (moment_of point p ≡ Some number)
+    filed false e = absurd (let h : None ≡ Some (group, number) = e in (cc))
+    filed true e = cases (moment_of point p) e
+
+pub place_at : (asked : Asked) (point : Point) (p : Placed) (number : ℕ) → is_asked asked point p.kind ≡ true → moment_of point p ≡ Some number → point_place asked point p ≡ Some (p.kind, number)
+place_at asked point p number on e = rw on (ap (option_map {U = ℕ × ℕ} (λ m. (p.kind, m))) e)
 
 -- what the moments of a partner tell
 pub moments_are : (low high : ℤ) (mine : ℕ) (o : Option ℕ) → are_apart low high (Some mine) o ≡ true → (m : ℕ) × (o ≡ Some m) × (is_apart low high mine m ≡ true)
@@ -163,7 +169,7 @@ moments_are low high mine (Some m) e = (m, refl, e)
 abbrev pub partners : ℕ → ℕ → ℤ → ℤ → ℕ → Point → Placed → Bool
 partners own kind low high mine point other = not (eqb other.id own) && (eqb other.kind kind && are_apart low high (Some mine) (moment_of point other))
 
-module _ (gone : Option ℕ) (items : List Placed) (keys : List Key) (rising : AreRising items) (point : Point) (index : IsIndexOf (point_place point) items keys) (own kind mine : ℕ) (low high : ℤ) where
+module _ (gone : Option ℕ) (items : List Placed) (keys : List Key) (rising : AreRising items) (asked : Asked) (point : Point) (index : IsIndexOf (point_place asked point) items keys) (own kind mine : ℕ) (on : is_asked asked point kind ≡ true) (low high : ℤ) where
   abbrev passes : Key → Bool
   passes k = (eqb k.group kind && is_apart low high mine k.number) && is_other own gone k.id
 
@@ -172,9 +178,9 @@ module _ (gone : Option ℕ) (items : List Placed) (keys : List Key) (rising : A
       let parts = and_parts (eqb k.group kind && is_apart low high mine k.number) (is_other own gone k.id) e in
       let lies = and_parts (eqb k.group kind) (is_apart low high mine k.number) parts.0 in
       let other = and_parts (not (eqb k.id own)) (is_left gone k.id) (sym (other_is own gone k.id) ∙ parts.1) in
-      let filed = filed_is (point_place point) (item_of k.id items) k (sym (index k) ∙ has) in
+      let filed = filed_is (point_place asked point) (item_of k.id items) k (sym (index k) ∙ has) in
       let p = filed.0 in
-      let at = point_is point p k.group k.number filed.2 in
+      let at = point_is asked point p k.group k.number filed.2 in
       let here : item_of k.id (left gone items) ≡ Some p = left_stays gone k.id items rising other.1 ∙ filed.1 in
       let is = item_is k.id (left gone items) p here in
       let kind_is : eqb p.kind kind ≡ true = ap (λ n. eqb n kind) at.0 ∙ lies.0 in
@@ -190,7 +196,8 @@ module _ (gone : Option ℕ) (items : List Placed) (keys : List Key) (rising : A
       let moments = moments_are low high mine (moment_of point p) more.1 in
       let here : item_of p.id (left gone items) ≡ Some p = item_here (left gone items) p (rising-left gone items rising) within in
       let k = key p.kind moments.0 p.id in
-      let has = has_filed (point_place point) items keys p.kind moments.0 p index (left_within gone p.id items p rising here) (place_at point p moments.0 moments.1) in
+      let filed : is_asked asked point p.kind ≡ true = ap (is_asked asked point) (eqb-true p.kind kind more.0) ∙ on in
+      let has = has_filed (point_place asked point) items keys p.kind moments.0 p index (left_within gone p.id items p rising here) (place_at asked point p moments.0 filed moments.1) in
       any_from passes keys k (contained k keys has)
       (and_from (eqb p.kind kind && is_apart low high mine moments.0) (is_other own gone p.id)
       (and_from (eqb p.kind kind) (is_apart low high mine moments.0) more.0 moments.2)
@@ -201,6 +208,34 @@ module _ (gone : Option ℕ) (items : List Placed) (keys : List Key) (rising : A
       same_test (list_any passes keys) (list_any (partners own kind low high mine point) (left gone items))
       (λ e. let found = any_found passes keys e in key_partner found.0 (has_contained found.0 keys found.1) found.2)
       (λ e. let found = any_found (partners own kind low high mine point) (left gone items) e in partner_key found.0 found.1 found.2)
+
+-- the walk leaves out the one that is gone
+module _ (link : Link) (own : ℕ) (gone : Option ℕ) (mine : ℕ) where
+  but_is : (p : Placed) → is_partner_but link own gone mine p ≡ (is_left gone p.id && is_partner_of link own mine p)
+  but_is p =
+      rw (other_is own gone p.id) (turned (not (eqb p.id own)) (is_left gone p.id) (eqb p.kind link.kind && are_apart link.low link.high (Some mine) (moment_of link.theirs p)))
+    where
+      turned : (a b c : Bool) → ((a && b) && c) ≡ (b && (a && c))
+      turned true b c = refl
+      turned false true c = refl
+      turned false false c = refl
+
+  pub partner_walked : (items : List Placed) → AreRising items → list_any (is_partner_but link own gone mine) items ≡ list_any (is_partner_of link own mine) (left gone items)
+  partner_walked items rising =
+      same_test (list_any (is_partner_but link own gone mine) items) (list_any (is_partner_of link own mine) (left gone items))
+      (λ e.
+      let found = any_found (is_partner_but link own gone mine) items e in
+      let p = found.0 in
+      let both = and_parts (is_left gone p.id) (is_partner_of link own mine p) (sym (but_is p) ∙ found.2) in
+      let is = item_is p.id (left gone items) p (left_stays gone p.id items rising both.0 ∙ item_here items p rising found.1) in
+      any_from (is_partner_of link own mine) (left gone items) p is.0 both.1)
+      (λ e.
+      let found = any_found (is_partner_of link own mine) (left gone items) e in
+      let p = found.0 in
+      let here = item_here (left gone items) p (rising-left gone items rising) found.1 in
+      let is = item_is p.id items p (left_within gone p.id items p rising here) in
+      any_from (is_partner_but link own gone mine) items p is.0
+      (but_is p ∙ and_from (is_left gone p.id) (is_partner_of link own mine p) (left_is_left gone p.id items p rising here) found.2))
 
 -- an activity that is not firm has none
 no_partner : (link : Link) (own other : Placed) → moment_of link.mine own ≡ None → is_partner link own other ≡ false

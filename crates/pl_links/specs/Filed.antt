@@ -1,5 +1,5 @@
 -- Where the indexes file an activity, and what is left where one is gone.
-use Rattle.std.specs.Prelude.{◌≡◌, ◌==◌, ◌&&◌, not, ℕ, Bool, List, All, Option, Some, None}
+use Rattle.std.specs.Prelude.{◌≡◌, ◌==◌, ◌&&◌, not, if◌then◌else◌, ℕ, Bool, List, All, Option, Some, None}
 use Rattle.std.specs.Option.{option_map}
 use Rattle.std.specs.Map.{values_of}
 use Rattle.pl_model.specs.declared.reservations.Point.{Point}
@@ -7,14 +7,19 @@ use Rattle.pl_model.specs.declared.reservations.Point.TheVariants.{Start, End}
 use Rattle.pl_model.specs.declared.links.Link.{Link}
 use Rattle.pl_links.specs.declared.placed.Placed.{Placed}
 use Rattle.pl_links.specs.declared.keys.Key.{Key}
+use Rattle.pl_links.specs.declared.asked.Asked.{Asked}
 use Rattle.pl_links.specs.declared.files.Files.{Files}
 use Rattle.pl_links.specs.Items.{AreRising, AreApart, item_of, with_item, without}
 use Rattle.pl_links.specs.Broken.{moment_of, are_apart}
-use Rattle.pl_links.specs.Keys.{IsIndexOf}
+use Rattle.pl_links.specs.Keys.{IsIndexOf, is_other}
+use Rattle.pl_links.specs.Asked.{is_asked}
 
--- a firm activity is filed under its kind, by the moment of its point
-abbrev pub point_place : Point → Placed → Option (ℕ × ℕ)
-point_place point p = option_map (λ m. (p.kind, m)) (moment_of point p)
+-- a firm activity is filed under its kind, by the moment of its point, where the point is asked for
+abbrev pub point_place : Asked → Point → Placed → Option (ℕ × ℕ)
+point_place asked point p =
+    if is_asked asked point p.kind
+    then option_map (λ m. (p.kind, m)) (moment_of point p)
+    else None
 
 -- a child is filed under its parent, by its slot
 abbrev pub parent_place : Placed → Option (ℕ × ℕ)
@@ -22,8 +27,8 @@ parent_place p = p.parent
 
 -- the files are those of the placed activities
 pub record AreFiles (items : List Placed) (files : Files) : Type 0 where
-  pub starts : IsIndexOf (point_place Start) items files.starts
-  pub ends : IsIndexOf (point_place End) items files.ends
+  pub starts : IsIndexOf (point_place files.asked Start) items files.starts
+  pub ends : IsIndexOf (point_place files.asked End) items files.ends
   pub children : IsIndexOf parent_place items files.children
 
 -- an index stays that of the activities, where this one is not among them
@@ -78,5 +83,12 @@ left (Some id) items = without id items
 abbrev pub is_partner_of : Link → ℕ → ℕ → Placed → Bool
 is_partner_of link own mine other =
     not (other.id == own)
+    && ((other.kind == link.kind)
+    && are_apart link.low link.high (Some mine) (moment_of link.theirs other))
+
+-- the same where one activity may be gone
+abbrev pub is_partner_but : Link → ℕ → Option ℕ → ℕ → Placed → Bool
+is_partner_but link own gone mine other =
+    is_other own gone other.id
     && ((other.kind == link.kind)
     && are_apart link.low link.high (Some mine) (moment_of link.theirs other))

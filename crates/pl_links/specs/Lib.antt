@@ -3,6 +3,7 @@ pub mod Broken
 pub mod Laws
 pub mod Keys
 pub mod Windows
+pub mod Asked
 pub mod Filed
 pub mod Standing
 pub mod Sets

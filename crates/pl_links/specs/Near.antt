@@ -11,6 +11,7 @@ use Rattle.pl_links.specs.declared.keys.Key.{Key}
 use Rattle.pl_links.specs.declared.files.Files.{Files}
 use Rattle.pl_links.specs.Items.{item_of}
 use Rattle.pl_links.specs.Keys.{link_at}
+use Rattle.pl_links.specs.Asked.{is_asked}
 use Rattle.pl_links.specs.Broken.{moment_of, is_apart, links_of, orders_of}
 
 -- the link and the order of one index
@@ -46,27 +47,38 @@ owners_at keys group link index (Some moment) =
     map (link_at index)
     (filter (λ k. (k.group == group) && is_apart link.low link.high k.number moment) keys)
 
--- the owners of a link to whom an activity can be a partner
-abbrev pub owners_of : Files → ℕ → Link → ℕ → Placed → List Broken
-owners_of files group link index p =
+-- the link of this index of an activity
+abbrev pub link_of : ℕ → Placed → Broken
+link_of index p = record { id = p.id; index = index; slots = false }
+
+-- all activities of a group
+abbrev pub owners_all : List Placed → ℕ → ℕ → List Broken
+owners_all items group index = map (link_of index) (filter (λ p. p.kind == group) items)
+
+-- the owners of a link to whom an activity can be a partner; all of the link's kind, where their
+-- points are not filed
+abbrev pub owners_of : List Placed → Files → ℕ → Link → ℕ → Placed → List Broken
+owners_of items files group link index p =
     if p.kind == link.kind
+    then (if is_asked files.asked link.mine group
     then owners_at (keys_at link.mine files) group link index (moment_of link.theirs p)
+    else owners_all items group index)
     else []
 
 -- the same of the links of a kind, from this index on
-abbrev pub owners_in : Files → ℕ → List Link → ℕ → Placed → List Broken
-owners_in files group [] index p = []
-owners_in files group (link ∷ links) index p =
-    owners_of files group link index p ++ owners_in files group links (index + 1) p
+abbrev pub owners_in : List Placed → Files → ℕ → List Link → ℕ → Placed → List Broken
+owners_in items files group [] index p = []
+owners_in items files group (link ∷ links) index p =
+    owners_of items files group link index p ++ owners_in items files group links (index + 1) p
 
 -- the same of the kinds, from this one on
-abbrev pub owners_among : Files → List Kind → ℕ → Placed → List Broken
-owners_among files [] group p = []
-owners_among files (kind ∷ kinds) group p =
-    owners_in files group kind.links 0 p ++ owners_among files kinds (group + 1) p
+abbrev pub owners_among : List Placed → Files → List Kind → ℕ → Placed → List Broken
+owners_among items files [] group p = []
+owners_among items files (kind ∷ kinds) group p =
+    owners_in items files group kind.links 0 p ++ owners_among items files kinds (group + 1) p
 
 -- the activity's own links and orders, those of its parent, and the links to which it can be a
 -- partner
-abbrev pub near : Model → Files → Placed → Option Placed → List Broken
-near model files p parent =
-    all_of model (Some p) ++ all_of model parent ++ owners_among files model.kinds 0 p
+abbrev pub near : Model → List Placed → Files → Placed → Option Placed → List Broken
+near model items files p parent =
+    all_of model (Some p) ++ all_of model parent ++ owners_among items files model.kinds 0 p

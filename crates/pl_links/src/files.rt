@@ -1,9 +1,11 @@
+use crate::asked::Asked;
 use crate::index::Index;
 
-/// The indexes of activities: the firm ones by kind, by start and by end, and children by parent
-/// and slot.
+/// The indexes of activities: the firm ones by kind, by start and by end, where these points of
+/// their kind are asked for, and children by parent and slot.
 #[derive(Drop)]
 pub(crate) struct Files {
+    pub asked: Asked,
     pub starts: Index,
     pub ends: Index,
     pub children: Index,

@@ -194,7 +194,7 @@ impl Copied for Index {
     }
 }
 
-fn is_other(own: u32, gone: Option<u32>, id: u32) -> bool
+pub(crate) fn is_other(own: u32, gone: Option<u32>, id: u32) -> bool
     ensures { result ≡ is_other own gone id }
 {
     match gone {

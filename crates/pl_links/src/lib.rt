@@ -2,6 +2,7 @@
 //! they break.
 #![tactic(auto)]
 
+mod asked;
 mod broken;
 mod changes;
 mod exchange;
@@ -20,6 +21,7 @@ mod placed;
 mod sharing;
 mod standing;
 mod store;
+mod walking;
 mod windows;
 
 pub use broken::Broken;

@@ -72,7 +72,7 @@ impl Links {
         ensures changes { IfOk result (Tells self.old.broken self.new.broken) }
         ensures err { OnErr result (self.new ≡ self.old) }
     {
-        self.store.place(item)?;
+        self.store.place(self.alloc, model, item)?;
         match mend(self.alloc, model, &self.store, None, item, &mut self.broken) {
             Ok(changes) => Ok(changes),
             Err(e) => {
@@ -145,7 +145,7 @@ impl Links {
     }
 
     /// Whether an activity, which need not be placed, has a partner for its link among the placed
-    /// ones. They are not walked through.
+    /// ones. For a link of the model they are not walked through.
     pub fn has_partner(&self, own: &Placed, link: &Link) -> bool
         ensures { result ≡ list_any (is_partner link.now own.now) self.now.items }
     {

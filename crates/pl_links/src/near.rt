@@ -1,5 +1,6 @@
 //! What may be broken, or mended, where an activity comes or goes.
 ghost use Rattle.std.specs.Prelude.{◌≡◌, ◌++◌, Some, OnOk, IfOk};
+ghost use Rattle.std.specs.Map.{values_of};
 ghost use Rattle.pl_links.specs.Near.{both, all_of, keys_at, near};
 ghost use Rattle.pl_links.specs.Near.{owners_at, owners_of, owners_in, owners_among};
 
@@ -9,9 +10,11 @@ use crate::index::Index;
 use crate::moments::moment;
 use crate::placed::Placed;
 use crate::standing::{links_of, orders_of};
+use crate::walking::add_all_owners;
 use crate::windows::window_before;
 use pl_model::{Kind, Link, Model, Point};
 use std::alloc::{AllocError, Global};
+use std::collections::BTreeMap;
 
 // Adds the link and the order of one index.
 fn add_both(near: &mut Vec<Broken>, id: u32, index: u32) -> Result<(), AllocError>
@@ -80,6 +83,7 @@ fn keys_at(files: &Files, point: Point) -> &Index
 // Adds the owners of a link to whom an activity can be a partner.
 fn add_owners_of(
     near: &mut Vec<Broken>,
+    items: &BTreeMap<u32, Placed>,
     files: &Files,
     group: u32,
     link: &Link,
@@ -87,9 +91,13 @@ fn add_owners_of(
     item: &Placed,
 ) -> Result<(), AllocError>
     ensures { OnOk result (near.new.items ≡ near.old.items
-        ++ owners_of files.now group link.now index item.now) }
+        ++ owners_of (values_of items.now.entries) files.now group link.now index item.now) }
 {
     if item.kind != link.kind {
+        return Ok(());
+    }
+    if !files.asked.has(link.mine, group) {
+        add_all_owners(near, items, group, index)?;
         return Ok(());
     }
     let keys = keys_at(files, link.mine);
@@ -99,37 +107,39 @@ fn add_owners_of(
 
 fn add_owners_in(
     near: &mut Vec<Broken>,
+    items: &BTreeMap<u32, Placed>,
     files: &Files,
     group: u32,
     links: &[Link],
     item: &Placed,
 ) -> Result<(), AllocError>
     ensures { OnOk result (near.new.items ≡ near.old.items
-        ++ owners_in files.now group links.now 0 item.now) }
+        ++ owners_in (values_of items.now.entries) files.now group links.now 0 item.now) }
 {
     for (at, link) in links.iter().enumerate() {
         if at > u32::MAX as usize {
             return Err(AllocError);
         }
-        add_owners_of(near, files, group, link, at as u32, item)?;
+        add_owners_of(near, items, files, group, link, at as u32, item)?;
     }
     Ok(())
 }
 
 fn add_owners_among(
     near: &mut Vec<Broken>,
+    items: &BTreeMap<u32, Placed>,
     files: &Files,
     kinds: &[Kind],
     item: &Placed,
 ) -> Result<(), AllocError>
     ensures { OnOk result (near.new.items ≡ near.old.items
-        ++ owners_among files.now kinds.now 0 item.now) }
+        ++ owners_among (values_of items.now.entries) files.now kinds.now 0 item.now) }
 {
     for (at, kind) in kinds.iter().enumerate() {
         if at > u32::MAX as usize {
             return Err(AllocError);
         }
-        add_owners_in(near, files, at as u32, kind.links.as_slice(), item)?;
+        add_owners_in(near, items, files, at as u32, kind.links.as_slice(), item)?;
     }
     Ok(())
 }
@@ -138,16 +148,18 @@ fn add_owners_among(
 pub(crate) fn near(
     alloc: Global,
     model: &Model,
+    items: &BTreeMap<u32, Placed>,
     files: &Files,
     item: &Placed,
     parent: Option<Placed>,
 ) -> Result<Vec<Broken>, AllocError>
-    ensures { IfOk result (λ all. all.items ≡ near model.now files.now item.now parent) }
+    ensures { IfOk result (λ all. all.items
+        ≡ near model.now (values_of items.now.entries) files.now item.now parent) }
 {
     let mut near = Vec::new(alloc);
     add_all(&mut near, model, item)?;
     add_parent(&mut near, model, parent)?;
-    add_owners_among(&mut near, files, model.kinds.as_slice(), item)?;
+    add_owners_among(&mut near, items, files, model.kinds.as_slice(), item)?;
     Ok(near)
 }
 

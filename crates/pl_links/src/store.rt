@@ -16,6 +16,7 @@ use crate::files::Files;
 use crate::moments::moment;
 use crate::near::near;
 use crate::placed::Placed;
+use crate::walking::has_partner_among;
 use crate::windows::window_after;
 use pl_lists::Copied;
 use pl_model::{Link, Model, Point};
@@ -54,7 +55,34 @@ impl Store {
     }
 
     /// Places an activity of a new id, in a slot that is free.
-    pub fn place(&mut self, item: &Placed) -> Result<(), AllocError>
+    pub fn place(&mut self, alloc: Global, model: &Model, item: &Placed) -> Result<(), AllocError>
+        requires absent { item_of item.now.id self.old ≡ None }
+        requires slot { IfSome item.now.parent (λ q. child_of q.0 q.1 self.old ≡ None) }
+        ensures ok { OnOk result (self.new ≡ with_item item.now self.old) }
+        ensures err { OnErr result (self.new ≡ self.old) }
+        ensures rising { AreRising self.new }
+        ensures apart { AreApart self.new }
+    {
+        self.begin(alloc, model)?;
+        self.put(item)?;
+        Ok(())
+    }
+
+    // Files the points that the links of the model ask for, from the first activity on.
+    fn begin(&mut self, alloc: Global, model: &Model) -> Result<(), AllocError>
+        ensures same { self.new ≡ self.old }
+        ensures rising { AreRising self.new }
+        ensures apart { AreApart self.new }
+    {
+        if !self.items.is_empty() {
+            return Ok(());
+        }
+        let files = Files::by(alloc, model)?;
+        self.files = files;
+        Ok(())
+    }
+
+    fn put(&mut self, item: &Placed) -> Result<(), AllocError>
         requires absent { item_of item.now.id self.old ≡ None }
         requires slot { IfSome item.now.parent (λ q. child_of q.0 q.1 self.old ≡ None) }
         ensures ok { OnOk result (self.new ≡ with_item item.now self.old) }
@@ -134,6 +162,9 @@ impl Store {
     fn has_partner_of(&self, gone: Option<u32>, own: u32, mine: u32, link: &Link) -> bool
         ensures { result ≡ list_any (is_partner_of link.now own mine) (left gone self.now) }
     {
+        if !self.files.asked.has(link.theirs, link.kind) {
+            return has_partner_among(&self.items, gone, own, mine, link);
+        }
         let window = window_after(mine, link.low, link.high);
         match link.theirs {
             Point::Start => self.files.starts.has_other(link.kind, window, own, gone),
@@ -162,7 +193,14 @@ impl Store {
             stands model.now self.now b ≡ stands model.now (without item.now.id self.now) b) }
         ensures ordered { IfOk result (λ all. IsStrictlySortedBy broken_cmp all.items) }
     {
-        let found = near(alloc, model, &self.files, item, self.parent_of(item))?;
+        let found = near(
+            alloc,
+            model,
+            &self.items,
+            &self.files,
+            item,
+            self.parent_of(item),
+        )?;
         Ok(each_once(found))
     }
 }

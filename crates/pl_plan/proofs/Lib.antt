@@ -5,6 +5,7 @@ pub mod Indexing
 pub mod RisingIds
 pub mod Pairs
 pub mod Owned
+pub mod Counting
 pub mod Keeping
 pub mod Climbs
 pub mod ValueSteps

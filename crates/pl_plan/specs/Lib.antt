@@ -7,6 +7,7 @@ pub mod Index
 pub mod Trees
 pub mod Serving
 pub mod Indexed
+pub mod Counts
 pub mod Fitting
 pub mod Values
 pub mod Firm

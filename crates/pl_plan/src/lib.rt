@@ -3,6 +3,7 @@
 
 mod activity;
 mod amounts;
+mod counts;
 mod evaluated;
 mod families;
 mod firmness;

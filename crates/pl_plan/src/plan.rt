@@ -2,9 +2,11 @@ ghost use Rattle.std.specs.Prelude.{◌≡◌, ◌≢◌, ◌↔◌, All, IsNone
 ghost use Rattle.std.specs.Option.{option_copied};
 ghost use Rattle.pl_plan.specs.Activities.{AreRising, IsLive, KeepsPlace, activity_of, placed, without, exchanged, with_end, measured_of};
 ghost use Rattle.pl_plan.specs.Indexed.{AreIndexed};
+ghost use Rattle.pl_plan.specs.Counts.{AreCounted};
 ghost use Rattle.pl_plan.specs.Places.{IsPlaceOf, IsGapFor};
 
 use crate::activity::Activity;
+use crate::counts::{Counts, served_goal};
 use crate::families::Families;
 use pl_lists::Copied;
 use std::alloc::{AllocError, Global};
@@ -16,6 +18,7 @@ use std::mem;
 pub struct Plan {
     activities: Vec<Activity>,
     families: Families,
+    counts: Counts,
 }
 
 impl Model for Plan {
@@ -25,10 +28,11 @@ impl Model for Plan {
     ghost Value = { PlanValue };
 
     ghost use Rattle.pl_plan.specs.Indexed.{AreIndexed};
+    ghost use Rattle.pl_plan.specs.Counts.{AreCounted};
 
     ghost view = { λ p. record { activities = p.activities.items } };
 
-    ghost invariant = { λ p. AreIndexed p.activities.items p.families.children p.families.servers × (length p.activities.items < 2 ^ 32) };
+    ghost invariant = { λ p. AreIndexed p.activities.items p.families.children p.families.servers × (length p.activities.items < 2 ^ 32) × AreCounted p.activities.items p.counts };
 }
 
 impl Plan {
@@ -39,6 +43,7 @@ impl Plan {
         Plan {
             activities: Vec::new(alloc),
             families: Families::new(alloc),
+            counts: Counts::new(alloc),
         }
     }
 
@@ -75,9 +80,12 @@ impl Plan {
         ensures ok { OnOk result (self.new.activities ≡ placed a self.old.activities) }
         ensures err { OnErr result (self.new ≡ self.old) }
     {
+        let goal = served_goal(&a);
         self.activities.reserve(1)?;
+        self.counts.make_place(goal)?;
         self.families.enter(&a)?;
         self.activities.insert(at, a).unwrap();
+        self.counts.raise(goal);
         Ok(())
     }
 
@@ -88,6 +96,7 @@ impl Plan {
     {
         let a = self.activities.remove(at);
         self.families.leave(&a);
+        self.counts.lower(served_goal(&a));
         a
     }
 
@@ -158,6 +167,12 @@ impl Plan {
         ensures { AreIndexed self.now.activities result.now.children result.now.servers }
     {
         &self.families
+    }
+
+    pub(crate) fn counts(&self) -> &Counts
+        ensures { AreCounted self.now.activities result.now }
+    {
+        &self.counts
     }
 
     // Where the activity of this id is.

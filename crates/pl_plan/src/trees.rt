@@ -56,7 +56,10 @@ impl Plan {
     pub fn is_served(&self, goal: u32) -> bool
         ensures { result ≡ is_served goal self.now.activities }
     {
-        self.server(goal).is_some()
+        match self.counts().get(goal) {
+            Some(count) => count > 0,
+            None => self.server(goal).is_some(),
+        }
     }
 
     /// The id of the root above, which is the id itself at a root.

@@ -10,8 +10,8 @@ use Rattle.pl_links.proofs.files.Files.insert_rest.Goals as goal
 pub returns-in-Ok-clause-ends : goal.returns-in-Ok-clause-ends
 returns-in-Ok-clause-ends c = λ items index absent.
     let p = c.args.item.now in
-    index_with (point_place End) items p c.args.self.now.ends c.insert.new.self
-    (subst (λ q. (k : Key) → has_key k c.insert.new.self ≡ (has_key k c.args.self.now.ends || is_key_of q p.id k)) c.point_place.ensures c.in_ok-insert.ensures.ok)
+    index_with (point_place c.args.self.now.asked End) items p c.args.self.now.ends c.insert.new.self
+    (subst (λ q. (k : Key) → has_key k c.insert.new.self ≡ (has_key k c.args.self.now.ends || is_key_of q p.id k)) c.point_place-place.ensures c.in_ok-insert.ensures.ok)
     absent index
 
 pub returns-in-Ok-clause-children : goal.returns-in-Ok-clause-children

@@ -11,10 +11,10 @@ pub returns : goal.returns
 returns c = λ items rising files placed.
     let p = c.args.item.now in
     record {
-      starts = index_without (point_place Start) items p c.args.self.now.starts c.remove.new.self
+      starts = index_without (point_place c.args.self.now.asked Start) items p c.args.self.now.starts c.remove.new.self
           (subst (λ q. (k : Key) → has_key k c.remove.new.self ≡ (has_key k c.args.self.now.starts && not (is_key_of q p.id k))) c.point_place.ensures c.remove.ensures)
           rising placed files.starts;
-      ends = index_without (point_place End) items p c.args.self.now.ends c.remove-2.new.self
+      ends = index_without (point_place c.args.self.now.asked End) items p c.args.self.now.ends c.remove-2.new.self
           (subst (λ q. (k : Key) → has_key k c.remove-2.new.self ≡ (has_key k c.args.self.now.ends && not (is_key_of q p.id k))) c.point_place-2.ensures c.remove-2.ensures)
           rising placed files.ends;
       children = index_without parent_place items p c.args.self.now.children c.remove-3.new.self c.remove-3.ensures rising placed files.children;

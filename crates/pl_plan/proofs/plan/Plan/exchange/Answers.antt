@@ -9,4 +9,4 @@ invariant_of-self c =
     let same : c.self.inside.activities.items ≡ xs = ap (λ s. s.activities) c.self.view_is in
     let is : set c.self.inside.activities.items c.place-at.result c.replace.new.dest ≡ exchanged c.args.a xs =
     ap (λ l. set l c.place-at.result c.replace.new.dest) same ∙ (ap (set xs c.place-at.result) c.replace.ensures.after ∙ sym (c.place-at.ensures.changed c.args.a refl)) in
-    kept_exchanged c.self.inside.activities.items xs _ c.self.inside.families.children c.self.inside.families.servers c.args.a same is c.self.invariant c.requires.place
+    kept_exchanged c.self.inside.activities.items xs _ c.self.inside.families.children c.self.inside.families.servers c.self.inside.counts c.args.a same is c.self.invariant c.requires.place

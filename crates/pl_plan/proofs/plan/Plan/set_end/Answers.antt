@@ -23,7 +23,7 @@ is c =
 
 pub invariant_of-self : goal.invariant_of-self
 invariant_of-self c =
-    kept_ended c.self.inside.activities.items c.args.self.now.activities _ c.self.inside.families.children c.self.inside.families.servers c.args.id c.args.moment c.index_mut.result.now (same c) (is c) c.self.invariant (here c)
+    kept_ended c.self.inside.activities.items c.args.self.now.activities _ c.self.inside.families.children c.self.inside.families.servers c.self.inside.counts c.args.id c.args.moment c.index_mut.result.now (same c) (is c) c.self.invariant (here c)
 
 pub returns : goal.returns
 returns c = is c

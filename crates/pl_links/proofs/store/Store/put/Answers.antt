@@ -11,7 +11,7 @@ use Rattle.pl_links.proofs.Ids.{rising-with_item}
 use Rattle.pl_links.proofs.Slots.{apart-with_item}
 use Rattle.pl_links.proofs.Keeping.{without-with}
 use Rattle.pl_links.proofs.Mapped.{inserted_is, under_inserted, removed_is, under_removed}
-use Rattle.pl_links.proofs.store.Store.place.Goals as goal
+use Rattle.pl_links.proofs.store.Store.put.Goals as goal
 
 module _ (es after : List (ℕ × Placed)) (files new : Files) (p : Placed) (stored : IsStored es files) (absent : item_of p.id (values_of es) ≡ None) (is : after ≡ insert_entry nat_cmp es p.id p) where
   put : values_of after ≡ with_item p (values_of es)
