@@ -41,7 +41,7 @@ use Rattle.pl_update.specs.Changes.Changes.{committed_to, withdrawn}
 use Rattle.pl_update.specs.Evaluations.Kept.{AreOf}
 use Rattle.pl_board.specs.declared.watched.WatchedState.{WatchedState}
 use Rattle.pl_board.specs.Boards.{IsWatched}
-use Rattle.pl_board.proofs.Once.{can_once, once_rising}
+use Rattle.pl_board.proofs.Once.{once_rising}
 use Rattle.pl_board.proofs.Joining.{turned_set, timelines_say}
 
 -- the set of a plan state tells what is wrong with its timelines
@@ -75,11 +75,8 @@ pub record Stands (t : PlanState) (lines : List Line) (set : List Conflict) : Ty
   pub are : AreLinesOf t lines
   pub found : set ≡ conflicts_of t
 
-module _ (s : PlanState) (lines : List Line) (set : List Conflict) (gone once : List ℕ) (more : List Activity) (whole : IsWhole s) (are : AreLinesOf s lines) (is : set ≡ conflicts_of s)
-    (can : CanReplace s gone more) (same : HoldSame once gone) (rising : IsStrictlyIncreasing once) where
-  pub can_each : CanReplace s once more
-  can_each = can_once s gone once more whole same can
-
+module _ (s : PlanState) (lines : List Line) (set : List Conflict) (once : List ℕ) (more : List Activity) (whole : IsWhole s) (are : AreLinesOf s lines) (is : set ≡ conflicts_of s)
+    (can : CanReplace s once more) (rising : IsStrictlyIncreasing once) where
   pub stands_replaced : (t : PlanState) (rest full : List Line) (set1 set2 set3 : List Conflict) (ids : List ℕ) (went came : List Conflict) → t ≡ with_plan once more s
       → IsMended s lines rest set set1 → IsMoved lines rest (less (gone_from s once)) → IsMended t rest full set1 set2 → IsMoved rest full (asked_at (coming_to t more))
       → HoldSame ids (touched_ids s once more) → MendsLinks s t went came
@@ -92,15 +89,15 @@ module _ (s : PlanState) (lines : List Line) (set : List Conflict) (gone once : 
           → set3 ≡ exchanged set2 (near s (turned_goals s once more) ids ++ went) (near (with_plan once more s) (turned_goals s once more) ids ++ came) → Stands (with_plan once more s) full set3
       core taken2 held2 links2 exchange2 =
           let u : PlanState = with_plan once more s in
-          let whole_t : IsWhole u = whole_replaced s once more whole can_each in
-          let are_t : AreLinesOf u full = lines_after s once more whole can_each (once_rising once rising) lines rest are left full held2 in
+          let whole_t : IsWhole u = whole_replaced s once more whole can in
+          let are_t : AreLinesOf u full = lines_after s once more whole can (once_rising once rising) lines rest are left full held2 in
           let told1 : IsTold s rest set1 = given.told (told_by s lines set whole are is) in
-          let told2 : IsTold u full set2 = taken2.told (rest_told s once more whole can_each (once_rising once rising) lines rest are left set1 told1) in
+          let told2 : IsTold u full set2 = taken2.told (rest_told s once more whole can (once_rising once rising) lines rest are left set1 told1) in
           record {
             whole = whole_t;
             are = are_t;
             found = exchange2 ∙ found_after s u (turned_goals s once more) ids went came full set set2 whole whole_t is
-                (follows_same s u (turned_goals s once more) (touched_ids s once more) (turned_goals s once more) ids (follows_turned s once more whole can_each) (λ n. refl) same_ids)
+                (follows_same s u (turned_goals s once more) (touched_ids s once more) (turned_goals s once more) ids (follows_turned s once more whole can) (λ n. refl) same_ids)
                 links2 (record { are = are_t; told = told2; others = λ q other. taken2.others q other ∙ given.others q other });
           }
 

@@ -1,5 +1,5 @@
 //! A plan state with what is kept of it, mended near each change.
-ghost use Rattle.std.specs.Prelude.{◌≡◌, OnOk, IfOk, None, ◌≤◌, ◌<◌, [], ◌∷◌, ◌++◌, slice_get};
+ghost use Rattle.std.specs.Prelude.{◌≡◌, OnOk, IfOk, IsTrue, None, ◌≤◌, ◌<◌, [], ◌∷◌, ◌++◌, slice_get};
 ghost use Rattle.pl_conflict.specs.Sorting.{exchanged};
 ghost use Rattle.pl_update.specs.GoalsAndActivities.Near.{near, HoldSame};
 ghost use Rattle.std.specs.List.Sorted.{IsStrictlyIncreasing};
@@ -117,10 +117,31 @@ impl WatchedState {
         ensures state { OnOk result (self.new.state ≡ with_plan gone.now placed.now self.old.state) }
         ensures watched { OnOk result (IsWatched self.new) }
     {
+        if are_rising(gone) {
+            return self.replace_once(alloc, gone, placed, steps);
+        }
         let gone = once(alloc, gone)?;
-        let turned = turned_by(alloc, &self.state, &gone, placed)?;
+        self.replace_once(alloc, &gone, placed, steps)?;
+        Ok(())
+    }
+
+    // The same where each id that goes is named once.
+    fn replace_once<L: Ledger>(
+        &mut self,
+        alloc: Global,
+        gone: &[u32],
+        placed: &[Activity],
+        steps: &mut Steps<L>,
+    ) -> Result<(), AllocError>
+        requires watched { IsWatched self.old }
+        requires can { CanReplace self.old.state gone.now placed.now }
+        requires rising { IsStrictlyIncreasing gone.now }
+        ensures state { OnOk result (self.new.state ≡ with_plan gone.now placed.now self.old.state) }
+        ensures watched { OnOk result (IsWatched self.new) }
+    {
+        let turned = turned_by(alloc, &self.state, gone, placed)?;
         let went = self.wrong_at(alloc, &turned.met, &turned.after.ids)?;
-        let given = asked_by(alloc, &self.state, &self.values, &gone)?;
+        let given = asked_by(alloc, &self.state, &self.values, gone)?;
         self.lines
             .give_back(&self.state, &given, &mut self.conflicts, steps)?;
         let mended = pl_update::links::replace(
@@ -128,7 +149,7 @@ impl WatchedState {
             &mut self.state,
             &mut self.values,
             &mut self.links,
-            &gone,
+            gone,
             placed,
         )?;
         let taken = asked_of(alloc, &self.state, &self.values, placed)?;
@@ -207,6 +228,18 @@ impl WatchedState {
             .set(line, i64::from(self.state.moment), value);
         Ok(())
     }
+}
+
+// Whether each id is less than the next.
+fn are_rising(ids: &[u32]) -> bool
+    ensures { IsTrue result → IsStrictlyIncreasing ids.now }
+{
+    for place in 1..ids.len() {
+        if ids[place] <= ids[place - 1] {
+            return false;
+        }
+    }
+    true
 }
 
 // The same ids, each once and rising.
