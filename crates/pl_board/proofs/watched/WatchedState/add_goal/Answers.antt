@@ -1,6 +1,10 @@
-use Rattle.std.proofs.Common.{◌≡◌, List, ◌∷◌, [], ◌++◌, refl, sym, ◌∙◌, ap}
+use Rattle.std.proofs.Common.{◌≡◌, List, ◌∷◌, [], ◌++◌, refl, sym, ◌∙◌, ap, subst}
 use Rattle.pl_conflict.specs.declared.conflict.Conflict.{Conflict}
 use Rattle.std.proofs.lemmas.List.{append-nil}
+use Rattle.pl_semantics.specs.declared.plan_state.PlanState.{PlanState}
+use Rattle.pl_semantics.specs.Conflicts.{conflicts_of}
+use Rattle.pl_semantics.specs.Whole.{IsWhole}
+use Rattle.pl_update.specs.Timelines.Framed.{AreLinesOf}
 use Rattle.pl_update.proofs.AboutChanges.Keeping.{whole_with_goal}
 use Rattle.pl_update.specs.Changes.Changes.{with_goal}
 use Rattle.pl_update.specs.GoalsAndActivities.Near.{near}
@@ -29,9 +33,9 @@ returns-clause-watched c =
     refl refl (sym (near_fresh s n c.requires.fresh)) refl refl
     (c.in_ok-exchange.ensures.ok ∙ ap (exchanged w.conflicts []) (came ∙ sym (append-nil (near (record s { goals = c.push.new.self }) (n ∷ []) [])))) in
     record {
-      whole = rw is_t whole_t;
-      values = rw is_t c.requires.watched.values;
-      timelines = rw is_t are_t;
-      store = rw is_t c.requires.watched.store;
-      found = rw is_t found;
+      whole = subst IsWhole (sym is_t) whole_t;
+      values = c.requires.watched.values;
+      timelines = subst (λ (x : PlanState). AreLinesOf x w.lines) (sym is_t) are_t;
+      store = c.requires.watched.store;
+      found = found ∙ ap conflicts_of (sym is_t);
     }
