@@ -67,7 +67,7 @@ pub fn is_candidate(
     ensures { IfOk result (λ is. is ≡ list_any (same_move mv.now) (candidates_of board.now.state k.now)) }
 {
     let state = board.state();
-    let mut all = Vec::new(alloc);
+    let mut all = Vec::with_capacity(alloc, MOST)?;
     tried(alloc, state, k, &mut all)?;
     is_left(alloc, state, all.as_slice(), mv)
 }

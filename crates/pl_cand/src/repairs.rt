@@ -44,13 +44,16 @@ fn window(alloc: Global, state: &PlanState, a: &Activity) -> Result<Vec<i64>, Al
     }
 }
 
+// The most starts that are tried: the floor, and sixteen of a window.
+const STARTS: usize = 17;
+
 /// The starts that are tried for an activity.
 pub(crate) fn places(alloc: Global, state: &PlanState, a: &Activity) -> Result<Vec<i64>, AllocError>
     requires { IsWhole state.now }
     ensures { IfOk result (λ all. all.items ≡ places_of state.now a.now) }
 {
     let window = window(alloc, state, a)?;
-    let mut all = Vec::new(alloc);
+    let mut all = Vec::with_capacity(alloc, STARTS)?;
     all.push(floor(state))?;
     all.extend_from_slice(window.as_slice())?;
     Ok(all)
