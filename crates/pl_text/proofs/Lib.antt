@@ -1,3 +1,4 @@
 pub mod Scanning
+pub mod Classes
 pub mod Digits
 pub mod PieceLemmas

@@ -1,5 +1,5 @@
 ghost use Rattle.std.specs.Prelude.{◌≡◌};
-ghost use Rattle.pl_text.specs.Bytes.{class_of, is_name_byte};
+ghost use Rattle.pl_text.specs.Bytes.{class_of, is_name_byte, is_number_byte};
 
 /// What a byte begins, outside of a comment.
 #[derive(Clone, Copy, PartialEq, Eq)]
@@ -28,8 +28,17 @@ pub fn class_of(byte: u8) -> Class
 }
 
 /// Whether a name may go on with the byte.
+#[tactic(auto, using(crate::proofs::Classes::name_is))]
 pub fn is_name_byte(byte: u8) -> bool
     ensures { result ≡ is_name_byte byte }
 {
-    byte == b'_' || matches!(class_of(byte), Class::Letter | Class::Digit)
+    matches!(byte, b'a'..=b'z' | b'A'..=b'Z' | b'0'..=b'9' | b'_')
+}
+
+/// Whether a number may go on with the byte.
+#[tactic(auto, using(crate::proofs::Classes::number_is))]
+pub fn is_number_byte(byte: u8) -> bool
+    ensures { result ≡ is_number_byte byte }
+{
+    matches!(byte, b'0'..=b'9')
 }

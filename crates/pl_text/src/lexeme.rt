@@ -4,7 +4,7 @@ ghost use Rattle.pl_text.specs.Bytes.{is_name_byte, is_number_byte, in_line};
 ghost use Rattle.pl_lists.specs.Judgements.{Gives};
 ghost use Rattle.pl_text.specs.Tokens.{number_value, named, numbered, lexeme_of, is_memory};
 
-use crate::class::{Class, class_of, is_name_byte};
+use crate::class::{Class, class_of, is_name_byte, is_number_byte};
 use crate::fault::TextFault;
 use crate::token::TokenKind;
 
@@ -28,9 +28,7 @@ fn digits_len(text: &[u8]) -> usize
     ensures value { result ≡ prefix_len is_number_byte text.now }
     ensures within { result ≤ length text.now }
 {
-    text.iter()
-        .take_while(|byte| class_of(**byte) == Class::Digit)
-        .count()
+    text.iter().take_while(|byte| is_number_byte(**byte)).count()
 }
 
 #[tactic(auto, using(crate::proofs::Scanning::prefix_within))]
