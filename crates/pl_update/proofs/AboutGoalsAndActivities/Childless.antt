@@ -1,6 +1,6 @@
 -- An activity of which no alternative is chosen has no children.
 use Rattle.std.proofs.Common.{◌≡◌, ◌<◌, ℕ, eqb, Bool, true, false, List, [], ◌∷◌, length, Some, None, Option, refl, sym, subst, arith}
-use Rattle.std.specs.Prelude.{All, IfSome, is_none}
+use Rattle.std.specs.Prelude.{All, IfSome}
 use Rattle.std.proofs.lemmas.Bool.{eqb-true}
 use Rattle.std.proofs.lemmas.List.Elements.{All-head, All-tail}
 use Rattle.pl_model.specs.declared.whole.Model.{Model}

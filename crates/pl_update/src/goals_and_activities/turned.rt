@@ -16,8 +16,9 @@ use pl_plan::Activity;
 use pl_semantics::PlanState;
 use std::alloc::{AllocError, Global};
 
-/// What a replacement concerns: before it the goals that it meets, and after it those that it loses, each with the same
-/// activities.
+/// The goals and activities whose conflicts a replacement changes. Before it, these are the goals in `met`, which
+/// something serves after the replacement alone, with the activities of `after`. After it, they are those in `after`:
+/// the goals that nothing serves any longer, and the same activities.
 #[derive(Drop)]
 pub struct Turned {
     pub met: Vec<u32>,
