@@ -1,4 +1,4 @@
-use Rattle.std.proofs.Common.{◌≡◌, ◌∙◌, sym, ap, subst, List, []}
+use Rattle.std.proofs.Common.{◌≡◌, ◌∙◌, sym, ap, subst, List}
 use Rattle.std.specs.Arc.{arc_value}
 use Rattle.pl_facts.specs.Bases.{first_bases}
 use Rattle.pl_plan.specs.declared.activity.Activity.{Activity}
