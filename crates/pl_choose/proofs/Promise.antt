@@ -1,13 +1,13 @@
 -- The first move that is tried for a conflict that stands alone is chosen where it leaves no conflict.
-use Rattle.std.proofs.Common.{◌≡◌, ◌≤◌, ◌<◌, ℕ, suc, max, min, Bool, true, false, List, [], ◌∷◌, length, Option, Some, None, ℤ, pos, refl, sym, ap, subst, ◌∙◌, arith}
-use Rattle.std.specs.Prelude.{◌≤ℤ◌, ◌-ℤ◌, ◌&&◌, nat_lt, nat_le, find, filter, take, All, ◌==◌, ◌+ℤ◌, ◌++◌, map, slice_get, option_and_then}
+use Rattle.std.proofs.Common.{◌≡◌, ◌≤◌, ◌<◌, ℕ, max, min, Bool, true, false, cond, List, [], ◌∷◌, ◌++◌, length, get_or, take, map, Some, ℤ, pos, refl, sym, ap, subst, ◌∙◌, arith}
+use Rattle.std.specs.Prelude.{◌≤ℤ◌, ◌-ℤ◌, ◌+ℤ◌, negsuc, ◌&&◌, ◌==◌, not, nat_lt, nat_le, find, filter, All, slice_get, option_and_then}
 use Rattle.std.specs.Int.{int_min, int_max}
-use Rattle.std.specs.List.{flat_map, list_all}
+use Rattle.std.specs.List.{flat_map}
 use Rattle.std.specs.Option.{option_map}
 use Rattle.std.proofs.lemmas.Int.{ints, clamps}
-use Rattle.std.proofs.lemmas.Bool.{le-leb}
+use Rattle.std.proofs.lemmas.Bool.{le-leb, and_parts}
 use Rattle.std.proofs.lemmas.Bool.Decides.{nat_tests}
-use Rattle.std.proofs.lemmas.List.Elements.{All-head}
+use Rattle.std.proofs.lemmas.List.Elements.{All-nil, All-cons, All-head, All-tail, All-append, All-take, All-filter}
 use Rattle.pl_lists.proofs.Numbers.{le_to_test}
 use Rattle.pl_conflict.specs.declared.conflict.Conflict.{Conflict}
 use Rattle.pl_facts.specs.declared.goal.Goal.{Goal}
@@ -16,26 +16,29 @@ use Rattle.pl_plan.specs.declared.activity.Activity.{Activity}
 use Rattle.pl_plan.specs.declared.repair.RepairMove.{RepairMove}
 use Rattle.pl_plan.specs.declared.repair.RepairMove.TheVariants.{Add, Detail, Drop}
 use Rattle.pl_semantics.specs.declared.plan_state.PlanState.{PlanState}
-use Rattle.pl_semantics.specs.PlanStates.{floor_of, numbered}
+use Rattle.pl_semantics.specs.PlanStates.{floor_of, goal_at, is_open, numbered}
 use Rattle.pl_semantics.specs.Starts.{spread, steps_from, stride_of, starting, floor_at, last_of, delete_root}
 use Rattle.pl_semantics.specs.Repairs.{for_goal, for_undetailed}
 use Rattle.pl_semantics.specs.Moves.{is_proper, alternatives_at}
 use Rattle.pl_semantics.specs.Candidates.{candidates_of, changes_nothing, is_worth, once_from, tried_for}
 use Rattle.pl_semantics.specs.Conflicts.{conflicts_of}
 use Rattle.pl_semantics.specs.Legal.{is_legal, has_repair, legal_for, left_after}
+use Rattle.pl_semantics.proofs.Sifting.{once_keeps}
+use Rattle.pl_moves.specs.Least.{least_known}
+use Rattle.pl_moves.proofs.Undetailed.{known_least}
 use Rattle.pl_cand.specs.declared.proposal.Proposal.{Proposal}
 use Rattle.pl_choose.specs.Alone.{AreEnough}
 use Rattle.pl_choose.specs.Found.{IsAllowed}
 use Rattle.pl_choose.specs.Picked.{enough_for}
 use Rattle.pl_choose.specs.Picks.{proposal, leaves_fewest, fewest, fewest_for, least_pick}
-use Rattle.pl_choose.specs.Promising.{BeginsWith, IsPromising}
+use Rattle.pl_choose.specs.Promising.{BeginsWith, LeaveAsMany, IsForemost, IsPromising}
 use Rattle.pl_choose.specs.declared.purpose.Purpose.{Purpose}
 use Rattle.pl_choose.proofs.Aims.{few_enough}
 use Rattle.pl_choose.proofs.Proposing.{all_allowed, one_legal}
 
 -- ---- the first of a list
 
-begun : {X : Type 0} (x : X) (more : List X) → BeginsWith x (x ∷ more)
+pub begun : {X : Type 0} (x : X) (more : List X) → BeginsWith x (x ∷ more)
 begun x more = record { more = more; is = refl }
 
 pub filter_begins : {X : Type 0} (p : X → Bool) (x : X) (xs : List X) → p x ≡ true → BeginsWith x xs → BeginsWith x (filter p xs)
@@ -60,6 +63,7 @@ low_is e f start is = omega (arith, ints, clamps, is)
 high_is : (l h start : ℕ) → start ≤ l → start < h → pos start ≤ℤ int_min (pos l) (pos h -ℤ pos 1)
 high_is l h start le lt = omega (arith, ints, clamps, le, lt)
 
+-- the first addition that is tried
 pub goal_begins : (s : PlanState) (g : Goal) (start : ℕ) → start ≡ max g.earliest (floor_of s) → start ≤ g.latest → start < s.model.horizon → BeginsWith (Add g.kind start (Some g.number)) (for_goal s g)
 goal_begins s g start is le lt =
     let low : ℤ = int_max (pos g.earliest) (floor_at s) in
@@ -76,48 +80,113 @@ detail_begins s a some = by (alternatives_at s a) some
     by [] none = absurd (omega (arith, none))
     by (x ∷ xs) some = begun (Detail a.id 0) (map (λ k. Detail a.id k.0) (numbered 1 xs) ++ delete_root s a)
 
+-- ---- none leaves fewer
+
+-- of the others, whatever is tried for the activity
+pub leave_none : (s : PlanState) (m : RepairMove) (ms : List RepairMove) → least_known s m ≡ 0 → LeaveAsMany s m ms
+leave_none s m ms zero = λ i d lt proper. rw zero (omega arith)
+
+module _ (s : PlanState) (g : Goal) (start : ℕ) where
+  abbrev made : ℕ → RepairMove
+  made t = Add g.kind t (Some g.number)
+
+  abbrev Rest : List RepairMove → Type 0
+  Rest ms = LeaveAsMany s (made start) ms
+
+  abbrev Is : RepairMove → Type 0
+  Is m = is_proper s m ≡ true → least_known s (made start) ≤ least_known s m
+
+  started : (z : ℤ) → Rest (starting s made z)
+  started (negsuc n) = All-nil Is
+  started (pos n) = by (nat_le 1 n && nat_lt n s.model.horizon)
+    where
+      by : (b : Bool) → Rest (cond b (made n ∷ []) [])
+      by true = All-cons Is (made n) [] (λ proper. omega arith) (All-nil Is)
+      by false = All-nil Is
+
+  starts : (zs : List ℤ) → Rest (flat_map (starting s made) zs)
+  starts [] = All-nil Is
+  starts (z ∷ zs) = All-append Is (starting s made z) (flat_map (starting s made) zs) (started z) (starts zs)
+
+  undropped : goal_at s g.number ≡ Some g → g.must ≡ true → Is (Drop g.number)
+  unfolding is_proper
+  undropped here must proper =
+      let dropped : (is_open s g && not g.must) ≡ true = rw here at proper in
+      let kept : (not g.must) ≡ true = (and_parts (is_open s g) (not g.must) dropped).1 in
+      absurd (let h : false ≡ true = rw must at kept in cc)
+
+  -- a goal that may not be dropped is served or stays open
+  pub goal_leaves : goal_at s g.number ≡ Some g → g.must ≡ true → Rest (for_goal s g)
+  goal_leaves here must =
+      let zs : List ℤ = spread (int_max (pos g.earliest) (floor_at s)) (int_min (pos g.latest) (last_of s)) in
+      All-append Is (flat_map (starting s made) zs) (Drop g.number ∷ []) (starts zs) (All-cons Is (Drop g.number) [] (undropped here must) (All-nil Is))
+
 -- ---- candidates
 
-pub candidate_begins : (s : PlanState) (k : Conflict) (m : RepairMove) → BeginsWith m (tried_for s k k.code) → changes_nothing s m ≡ false → is_proper s m ≡ true → BeginsWith m (candidates_of s k)
+pub candidate_foremost : (s : PlanState) (k : Conflict) (m : RepairMove) → IsForemost s m (tried_for s k k.code) → changes_nothing s m ≡ false → is_proper s m ≡ true → IsForemost s m (candidates_of s k)
 unfolding candidates_of
-candidate_begins s k m tried changes proper =
+candidate_foremost s k m tried changes proper =
     let worth : is_worth s m ≡ true = rw (proper, changes) refl in
-    let left = filter_begins (is_worth s) m (tried_for s k k.code) worth tried in
-    record { more = take 255 (once_from (m ∷ []) left.more); is = rw left.is refl }
+    let all : List RepairMove = tried_for s k k.code in
+    let left = filter_begins (is_worth s) m all worth tried.first in
+    let P : RepairMove → Type 0 = λ other. is_proper s other ≡ true → least_known s m ≤ least_known s other in
+    record {
+      first = record { more = take 255 (once_from (m ∷ []) left.more); is = rw left.is refl };
+      least = All-take P 256 (once_from [] (filter (is_worth s) all)) (once_keeps P [] (filter (is_worth s) all) (All-filter (is_worth s) P all tried.least))
+    }
 
-pub legal_begins : (s : PlanState) (k : Conflict) (m : RepairMove) → BeginsWith m (candidates_of s k) → is_legal s m ≡ true → BeginsWith m (legal_for s k)
+pub legal_foremost : (s : PlanState) (k : Conflict) (m : RepairMove) → IsForemost s m (candidates_of s k) → is_legal s m ≡ true → IsForemost s m (legal_for s k)
 unfolding legal_for
-legal_begins s k m first legal = filter_begins (is_legal s) m (candidates_of s k) legal first
+legal_foremost s k m candidate legal =
+    let P : RepairMove → Type 0 = λ other. is_proper s other ≡ true → least_known s m ≤ least_known s other in
+    record {
+      first = filter_begins (is_legal s) m (candidates_of s k) legal candidate.first;
+      least = All-filter (is_legal s) P (candidates_of s k) candidate.least
+    }
 
 -- ---- what is chosen
-
--- nothing leaves fewer than none
-none_fewer : (s : PlanState) (m : RepairMove) (ms : List RepairMove) → left_after s m ≡ 0 → leaves_fewest s ms m ≡ true
-none_fewer s m [] zero = refl
-none_fewer s m (other ∷ more) zero =
-    let least : nat_le (left_after s m) (left_after s other) ≡ true = rw zero (le-leb 0 (left_after s other) (omega arith)) in
-    rw least (none_fewer s m more zero)
-
-first_is_fewest : (s : PlanState) (m : RepairMove) (ms : List RepairMove) → left_after s m ≡ 0 → BeginsWith m ms → fewest s ms ≡ Some m
-first_is_fewest s m ms zero first =
-    let least : leaves_fewest s (m ∷ first.more) m ≡ true = none_fewer s m (m ∷ first.more) zero in
-    rw (first.is, least) refl
-
--- where the first legal candidate of the only conflict leaves none it is picked
-pub promise_kept : (s : PlanState) (p : Proposal) → IsPromising s p → left_after s p.mv ≡ 0 → Some p ≡ least_pick s
-unfolding least_pick legal_for
-promise_kept s p is zero =
-    let k : Conflict = p.conflict in
-    let some : (length (legal_for s k) == 0) ≡ false = rw is.first.is refl in
-    let has : has_repair s k ≡ true = one_legal s k (legal_for s k) refl some in
-    let found : find (has_repair s) (conflicts_of s) ≡ Some k = rw (is.alone, has) refl in
-    sym (ap (option_and_then (fewest_for s)) found ∙ ap (option_map (proposal k)) (first_is_fewest s p.mv (legal_for s k) zero is.first))
 
 pub first_allowed : (s : PlanState) (k : Conflict) (m : RepairMove) → BeginsWith m (legal_for s k) → IsAllowed s m
 first_allowed s k m first =
     let P : List RepairMove → Type 0 = λ ms. All (IsAllowed s) ms in
     All-head (IsAllowed s) m first.more (subst P first.is (all_allowed s k))
 
--- where no conflict was few enough none was left
-pub none_left : (why : Purpose) (left : ℕ) → AreEnough (enough_for why (Some 0)) left → left ≡ 0
-none_left why left enough = let few : left ≤ 0 = few_enough why (Some 0) left enough in omega (arith, few)
+-- each leaves as many as are known to be left by the foremost
+leave_as_many : (s : PlanState) (k : Conflict) (m : RepairMove) → LeaveAsMany s m (legal_for s k) → All (λ other. least_known s m ≤ left_after s other) (legal_for s k)
+leave_as_many s k m least = λ i d lt.
+    let other : RepairMove = get_or (legal_for s k) i d in
+    let can : IsAllowed s other = all_allowed s k i d lt in
+    let known : least_known s m ≤ least_known s other = least i d lt can.proper in
+    let left : least_known s other ≤ left_after s other = known_least s other can in
+    omega (arith, known, left)
+
+none_fewer : (s : PlanState) (m : RepairMove) (ms : List RepairMove) (n : ℕ) → left_after s m ≤ n → All (λ other. n ≤ left_after s other) ms → leaves_fewest s ms m ≡ true
+none_fewer s m [] n few all = refl
+none_fewer s m (other ∷ more) n few all =
+    let here : n ≤ left_after s other = All-head (λ o. n ≤ left_after s o) other more all in
+    let least : nat_le (left_after s m) (left_after s other) ≡ true = le-leb (left_after s m) (left_after s other) (omega (arith, few, here)) in
+    rw least (none_fewer s m more n few (All-tail (λ o. n ≤ left_after s o) other more all))
+
+first_is_fewest : (s : PlanState) (m : RepairMove) (ms : List RepairMove) → leaves_fewest s ms m ≡ true → BeginsWith m ms → fewest s ms ≡ Some m
+first_is_fewest s m ms least first =
+    let P : List RepairMove → Type 0 = λ all. leaves_fewest s all m ≡ true in
+    let here : leaves_fewest s (m ∷ first.more) m ≡ true = subst P first.is least in
+    rw (first.is, here) refl
+
+-- the foremost legal candidate of the only conflict is picked where it leaves no more than is known of it
+pub promise_kept : (s : PlanState) (p : Proposal) → IsPromising s p → left_after s p.mv ≤ least_known s p.mv → Some p ≡ least_pick s
+unfolding least_pick
+promise_kept s p is few =
+    let k : Conflict = p.conflict in
+    let all : List RepairMove = legal_for s k in
+    let some : (length all == 0) ≡ false = rw is.foremost.first.is refl in
+    let has : has_repair s k ≡ true = one_legal s k all refl some in
+    let found : find (has_repair s) (conflicts_of s) ≡ Some k = rw (is.alone, has) refl in
+    let least : leaves_fewest s all p.mv ≡ true = none_fewer s p.mv all (least_known s p.mv) few (leave_as_many s k p.mv is.foremost.least) in
+    sym (ap (option_and_then (fewest_for s)) found ∙ ap (option_map (proposal k)) (first_is_fewest s p.mv all least is.foremost.first))
+
+-- the same where it stays made
+pub made_kept : (s : PlanState) (p : Proposal) (why : Purpose) (n : ℕ) → IsPromising s p → n ≡ least_known s p.mv → AreEnough (enough_for why (Some n)) (left_after s p.mv) → Some p ≡ least_pick s
+made_kept s p why n is known enough =
+    let few : left_after s p.mv ≤ n = few_enough why (Some n) (left_after s p.mv) enough in
+    promise_kept s p is (omega (arith, few, known))

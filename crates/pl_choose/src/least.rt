@@ -14,6 +14,7 @@ use crate::repairs::Repairs;
 use crate::search::first_repairs;
 use pl_board::Board;
 use pl_cand::{Chooser, Proposal, make};
+use pl_moves::least_left;
 use std::alloc::{AllocError, Global};
 
 /// Takes the first conflict that has a legal candidate, and of these the one that leaves the fewest conflicts, the first among
@@ -88,7 +89,7 @@ fn choose_among(
     }
 }
 
-// What is promising is chosen if it leaves no conflict.
+// What is promising is chosen if it leaves no more conflicts than are known to be left by any.
 fn choose_promising(
     alloc: Global,
     board: &mut Board,
@@ -102,10 +103,11 @@ fn choose_promising(
     ensures board { IfOk result (λ p. board.new ≡ behind purpose p board.old) }
     ensures err { OnErr result (board.new.spoiled ≡ true) }
 {
-    match try_alone(alloc, board, &proposal.mv, enough_for(purpose, Some(0)))? {
+    let least = least_left(board.state(), &proposal.mv);
+    match try_alone(alloc, board, &proposal.mv, enough_for(purpose, Some(least)))? {
         Alone::Made => Ok(Some(proposal)),
         Alone::Undone { left } => {
-            if left == 0 {
+            if left <= least as usize {
                 return settle(alloc, board, proposal, purpose);
             }
             choose_among(alloc, board, purpose)

@@ -1,4 +1,5 @@
-//! A conflict that stands alone. If the first of its legal candidates leaves no conflict, none is better: then no other is listed.
+//! A conflict that stands alone. If the first move that is tried for it leaves as few conflicts as are known to be left by any, none is
+//! better, and the others are not listed.
 ghost use Rattle.std.specs.Prelude.{◌≡◌, true, false, Some, IfSome};
 ghost use Rattle.pl_plan.specs.declared.repair.RepairMove.TheVariants.{Add};
 ghost use Rattle.pl_semantics.specs.Whole.{IsWhole};
@@ -7,7 +8,7 @@ ghost use Rattle.pl_semantics.specs.Repairs.{for_goal, for_undetailed};
 ghost use Rattle.pl_semantics.specs.Candidates.{candidates_of, changes_nothing, tried_for};
 ghost use Rattle.pl_semantics.specs.Legal.{legal_for};
 ghost use Rattle.pl_semantics.specs.Moves.{is_proper};
-ghost use Rattle.pl_choose.specs.Promising.{BeginsWith, IsPromising};
+ghost use Rattle.pl_choose.specs.Promising.{BeginsWith, IsForemost, IsPromising};
 
 use pl_board::Board;
 use pl_cand::Proposal;
@@ -30,10 +31,12 @@ fn first_start(state: &PlanState, goal: &Goal) -> Option<u32>
     }
 }
 
-// The first addition that is tried for a goal, where one is.
+// The first addition that is tried for a goal that may not be dropped, where one is.
 fn first_addition(state: &PlanState, goal: &Goal) -> Option<RepairMove>
-    requires { IsWhole state.now }
-    ensures first { IfSome result (λ m. BeginsWith m (for_goal state.now goal.now)) }
+    requires whole { IsWhole state.now }
+    requires goal { goal_at state.now goal.now.number ≡ Some goal.now }
+    requires must { goal.now.must ≡ true }
+    ensures foremost { IfSome result (λ m. IsForemost state.now m (for_goal state.now goal.now)) }
     ensures changes { IfSome result (λ m. changes_nothing state.now m ≡ false) }
 {
     let start = first_start(state, goal)?;
@@ -44,21 +47,35 @@ fn first_addition(state: &PlanState, goal: &Goal) -> Option<RepairMove>
     })
 }
 
-// The first move that is tried for the goal of this number, where it is an addition.
+// The same of a goal that may be dropped is not told: its drop may leave fewer conflicts.
+fn first_if_must(state: &PlanState, goal: &Goal) -> Option<RepairMove>
+    requires whole { IsWhole state.now }
+    requires goal { goal_at state.now goal.now.number ≡ Some goal.now }
+    ensures foremost { IfSome result (λ m. IsForemost state.now m (for_goal state.now goal.now)) }
+    ensures changes { IfSome result (λ m. changes_nothing state.now m ≡ false) }
+{
+    if goal.must {
+        first_addition(state, goal)
+    } else {
+        None
+    }
+}
+
+// The first move that is tried for the goal of this number, where it is told.
 fn first_for_goal(state: &PlanState, number: u32) -> Option<RepairMove>
     requires { IsWhole state.now }
-    ensures first { IfSome result (λ m. BeginsWith m (of_found (for_goal state.now) (goal_at state.now number))) }
+    ensures foremost { IfSome result (λ m. IsForemost state.now m (of_found (for_goal state.now) (goal_at state.now number))) }
     ensures changes { IfSome result (λ m. changes_nothing state.now m ≡ false) }
 {
     match state.goals.get(number) {
-        Some(goal) => first_addition(state, goal),
+        Some(goal) => first_if_must(state, goal),
         None => None,
     }
 }
 
 // The first alternative of an activity, where its kind has some.
 fn first_alternative(state: &PlanState, a: &Activity) -> Option<RepairMove>
-    ensures first { IfSome result (λ m. BeginsWith m (for_undetailed state.now a.now)) }
+    ensures foremost { IfSome result (λ m. IsForemost state.now m (for_undetailed state.now a.now)) }
     ensures changes { IfSome result (λ m. changes_nothing state.now m ≡ false) }
 {
     if state.alternatives_of(a).is_empty() {
@@ -70,9 +87,9 @@ fn first_alternative(state: &PlanState, a: &Activity) -> Option<RepairMove>
     })
 }
 
-// The first move that is tried for the undetailed activity of this id, where it chooses an alternative.
+// The first move that is tried for the activity of this id that lacks an alternative, where it chooses one.
 fn first_for_undetailed(state: &PlanState, id: u32) -> Option<RepairMove>
-    ensures first { IfSome result (λ m. BeginsWith m (of_found (for_undetailed state.now) (found state.now id))) }
+    ensures foremost { IfSome result (λ m. IsForemost state.now m (of_found (for_undetailed state.now) (found state.now id))) }
     ensures changes { IfSome result (λ m. changes_nothing state.now m ≡ false) }
 {
     match state.live(id) {
@@ -81,10 +98,10 @@ fn first_for_undetailed(state: &PlanState, id: u32) -> Option<RepairMove>
     }
 }
 
-// The first move that is tried for an open goal, or for an activity that lacks an alternative. It is told without a list.
+// The first move that is tried for an open goal, or for an activity that lacks an alternative, where it is told. No list is made.
 fn first_tried(state: &PlanState, k: &Conflict) -> Option<RepairMove>
     requires { IsWhole state.now }
-    ensures first { IfSome result (λ m. BeginsWith m (tried_for state.now k.now k.now.code)) }
+    ensures foremost { IfSome result (λ m. IsForemost state.now m (tried_for state.now k.now k.now.code)) }
     ensures changes { IfSome result (λ m. changes_nothing state.now m ≡ false) }
 {
     match k.code {
@@ -97,7 +114,7 @@ fn first_tried(state: &PlanState, k: &Conflict) -> Option<RepairMove>
 // The first candidate of such a conflict, where the first move that is tried is one.
 fn first_candidate(board: &Board, k: &Conflict) -> Option<RepairMove>
     requires { board.now.spoiled ≡ false }
-    ensures first { IfSome result (λ m. BeginsWith m (candidates_of board.now.state k.now)) }
+    ensures foremost { IfSome result (λ m. IsForemost board.now.state m (candidates_of board.now.state k.now)) }
     ensures proper { IfSome result (λ m. is_proper board.now.state m ≡ true) }
 {
     let mv = first_tried(board.state(), k)?;
@@ -107,13 +124,13 @@ fn first_candidate(board: &Board, k: &Conflict) -> Option<RepairMove>
 // The first legal candidate of such a conflict, where the first move that is tried is one.
 fn first_legal(board: &Board, k: &Conflict) -> Option<RepairMove>
     requires { board.now.spoiled ≡ false }
-    ensures { IfSome result (λ m. BeginsWith m (legal_for board.now.state k.now)) }
+    ensures { IfSome result (λ m. IsForemost board.now.state m (legal_for board.now.state k.now)) }
 {
     let mv = first_candidate(board, k)?;
     if is_legal(board, &mv) { Some(mv) } else { None }
 }
 
-/// The first legal candidate of the only conflict, where it is told without a list of all.
+/// The foremost legal candidate of the only conflict, where it is told without a list.
 pub(crate) fn promising(board: &Board) -> Option<Proposal>
     requires { board.now.spoiled ≡ false }
     ensures { IfSome result (IsPromising board.now.state) }
