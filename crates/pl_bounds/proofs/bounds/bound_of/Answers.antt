@@ -14,5 +14,11 @@ least_by-requires-clause-run c =
 pub returns-clause-runs : goal.returns-clause-runs
 returns-clause-runs c =
     let s = c.args.board.now.state in
-    let all = All-push (IsRunOf s) c.args.runs.now.items c.in_ok-run.run c.requires.runs c.in_ok-run.ensures.run in
+    let all = All-push (IsRunOf s) c.args.runs.now.items c.in_ok-run.run' c.requires.runs c.in_ok-run.ensures.run in
     subst (λ (rs : List Run). All (IsRunOf s) rs) (sym c.in_ok-push.ensures.items) all
+
+pub least_by-requires-clause-different : goal.least_by-requires-clause-different
+least_by-requires-clause-different c = ?
+
+pub least_by-bound-requires-clause-different : goal.least_by-bound-requires-clause-different
+least_by-bound-requires-clause-different c = ?

@@ -11,7 +11,7 @@ loop-look-preserved c = λ line right.
     let limit = c.args.limit in
     let so_far = c.loop-look.invariant line right in
     let rest = right_next s side line c.args.looks.now c.loop-look.look-index _ c.loop-look-test.true so_far.1 in
-    (c.noted.ensures (λ t. is_past side limit (value_at s side line t)) s.moment s.model.horizon (ap (is_past side limit) (sym rest.0) ∙ sym c.is_past.ensures) so_far.0, rest.1)
+    (c.noted-tally.ensures (λ t. is_past side limit (value_at s side line t)) s.moment s.model.horizon (ap (is_past side limit) (sym rest.0) ∙ sym c.is_past.ensures) so_far.0, rest.1)
 
 pub returns : goal.returns
 returns c = λ line right.
