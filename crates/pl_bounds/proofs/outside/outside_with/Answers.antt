@@ -1,11 +1,10 @@
-use Rattle.std.proofs.Common.{◌≡◌, ◌≤◌, ℤ, List, Some, length, ap, ◌∙◌, sym, subst, arith}
+use Rattle.std.proofs.Common.{◌≡◌, ℤ, List, Some, ap, ◌∙◌, sym, subst, arith}
 use Rattle.std.proofs.lemmas.Int.{ints}
 use mir.Val.{to_z, of_z}
 use mir.Syntax.{w64}
 use Rattle.pl_semantics.specs.declared.plan_state.PlanState.{PlanState}
 use Rattle.pl_semantics.specs.Demands.{since}
-use Rattle.pl_semantics.specs.Timelines.{spans_ahead}
-use Rattle.pl_bounds.specs.Sides.{AreRight, is_past, value_at}
+use Rattle.pl_bounds.specs.Sides.{AreRight}
 use Rattle.pl_bounds.specs.declared.outside.Look.{Look}
 use Rattle.pl_bounds.proofs.outside.outside_with.Goals as goal
 
@@ -22,5 +21,5 @@ returns-clause-of_plan c =
       since = c.since.ensures ∙ ap (λ (t : PlanState). since t line) c.state-s.ensures.value;
       moments = looks.rising;
       right = looks.right;
-      times = subst (λ (z : ℤ). c.times_now-times.result ≤ length (spans_ahead s (λ t. is_past side z (value_at s side line t)))) whole (c.times_now-times.ensures line right);
+      times = c.times_now-times.ensures line right;
     }
