@@ -14,9 +14,34 @@ use pl_board::Board;
 use pl_cand::Proposal;
 use pl_conflict::{Code, Conflict};
 use pl_facts::Goal;
+use pl_model::{Kind, Reservation, Slot};
 use pl_moves::{is_legal, proper};
 use pl_plan::{Activity, RepairMove};
 use pl_semantics::PlanState;
+
+// ---- what is likely to leave no conflict: any answer would do, and owes no proof
+
+fn needs_state(reservation: &Reservation) -> bool {
+    matches!(reservation, Reservation::Put(_, _, _) | Reservation::Must(_, _))
+}
+
+// Whether it asks for no partner and for no state.
+fn is_undemanding(kind: &Kind) -> bool {
+    kind.links.is_empty() && !kind.reservations.as_slice().iter().any(|r| needs_state(r))
+}
+
+fn is_undemanding_at(state: &PlanState, kind: u32) -> bool {
+    match state.model.get().kinds.as_slice().get(kind as usize) {
+        Some(kind) => is_undemanding(kind),
+        None => false,
+    }
+}
+
+fn are_undemanding(state: &PlanState, slots: &[Slot]) -> bool {
+    slots.iter().all(|slot| is_undemanding_at(state, slot.kind))
+}
+
+// ---- the first move
 
 // The first start that is tried for a goal, where one is.
 fn first_start(state: &PlanState, goal: &Goal) -> Option<u32>
@@ -48,13 +73,13 @@ fn first_addition(state: &PlanState, goal: &Goal) -> Option<RepairMove>
 }
 
 // The same of a goal that may be dropped is not told: its drop may leave fewer conflicts.
-fn first_if_must(state: &PlanState, goal: &Goal) -> Option<RepairMove>
+fn first_if_likely(state: &PlanState, goal: &Goal) -> Option<RepairMove>
     requires whole { IsWhole state.now }
     requires goal { goal_at state.now goal.now.number ≡ Some goal.now }
     ensures foremost { IfSome result (λ m. IsForemost state.now m (for_goal state.now goal.now)) }
     ensures changes { IfSome result (λ m. changes_nothing state.now m ≡ false) }
 {
-    if goal.must {
+    if goal.must && is_undemanding_at(state, goal.kind) {
         first_addition(state, goal)
     } else {
         None
@@ -68,7 +93,7 @@ fn first_for_goal(state: &PlanState, number: u32) -> Option<RepairMove>
     ensures changes { IfSome result (λ m. changes_nothing state.now m ≡ false) }
 {
     match state.goals.get(number) {
-        Some(goal) => first_if_must(state, goal),
+        Some(goal) => first_if_likely(state, goal),
         None => None,
     }
 }
@@ -78,13 +103,13 @@ fn first_alternative(state: &PlanState, a: &Activity) -> Option<RepairMove>
     ensures foremost { IfSome result (λ m. IsForemost state.now m (for_undetailed state.now a.now)) }
     ensures changes { IfSome result (λ m. changes_nothing state.now m ≡ false) }
 {
-    if state.alternatives_of(a).is_empty() {
-        return None;
+    match state.alternatives_of(a) {
+        [first, ..] if are_undemanding(state, first.slots.as_slice()) => Some(RepairMove::Detail {
+            id: a.id,
+            alternative: 0,
+        }),
+        _ => None,
     }
-    Some(RepairMove::Detail {
-        id: a.id,
-        alternative: 0,
-    })
 }
 
 // The first move that is tried for the activity of this id that lacks an alternative, where it chooses one.
