@@ -5,7 +5,7 @@ use Rattle.std.specs.Int.{int_min, int_max}
 use Rattle.std.specs.List.{flat_map}
 use Rattle.std.specs.Option.{option_map}
 use Rattle.std.proofs.lemmas.Int.{ints, clamps}
-use Rattle.std.proofs.lemmas.Bool.{le-leb, and_parts}
+use Rattle.std.proofs.lemmas.Bool.{le-leb, leb-true, and_parts}
 use Rattle.std.proofs.lemmas.Bool.Decides.{nat_tests}
 use Rattle.std.proofs.lemmas.List.Elements.{All-nil, All-cons, All-head, All-tail, All-append, All-take, All-filter}
 use Rattle.pl_conflict.specs.declared.conflict.Conflict.{Conflict}
@@ -206,3 +206,9 @@ pub made_kept : (s : PlanState) (p : Proposal) (why : Purpose) (n : ℕ) → IsP
 made_kept s p why n is known enough =
     let few : left_after s p.mv ≤ n = few_enough why (Some n) (left_after s p.mv) enough in
     promise_kept s p is (omega (arith, few, known))
+
+-- and where it was undone
+pub tried_kept : (s : PlanState) (p : Proposal) (left n : ℕ) → IsPromising s p → n ≡ least_known s p.mv → left ≡ left_after s p.mv → nat_le left n ≡ true → Some p ≡ least_pick s
+tried_kept s p left n is known counted few =
+    let le : left ≤ n = leb-true left n few in
+    promise_kept s p is (omega (arith, le, known, counted))

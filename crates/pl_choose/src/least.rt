@@ -89,6 +89,28 @@ fn choose_among(
     }
 }
 
+// Behind the try of what is promising: it is chosen if it is known to be the best.
+fn choose_behind(
+    alloc: Global,
+    board: &mut Board,
+    proposal: Proposal,
+    purpose: Purpose,
+    is_best: bool,
+) -> Result<Option<Proposal>, AllocError>
+    requires unspoiled { board.old.spoiled ≡ false }
+    requires next_id { board.old.state.next_id ≤ 3999999000 }
+    requires best { is_best ≡ true → Some proposal ≡ least_pick board.old.state }
+    ensures picks { IfOk result (λ p. p ≡ least_pick board.old.state) }
+    ensures board { IfOk result (λ p. board.new ≡ behind purpose p board.old) }
+    ensures err { OnErr result (board.new.spoiled ≡ true) }
+{
+    if is_best {
+        settle(alloc, board, proposal, purpose)
+    } else {
+        choose_among(alloc, board, purpose)
+    }
+}
+
 // What is promising is chosen if it leaves no more conflicts than are known to be left by any.
 fn choose_promising(
     alloc: Global,
@@ -107,10 +129,7 @@ fn choose_promising(
     match try_alone(alloc, board, &proposal.mv, enough_for(purpose, Some(least)))? {
         Alone::Made => Ok(Some(proposal)),
         Alone::Undone { left } => {
-            if left <= least as usize {
-                return settle(alloc, board, proposal, purpose);
-            }
-            choose_among(alloc, board, purpose)
+            choose_behind(alloc, board, proposal, purpose, left <= least as usize)
         }
     }
 }
