@@ -133,6 +133,14 @@ module _ (s : PlanState) (g : Goal) (start : ℕ) where
       let zs : List ℤ = spread (int_max (pos g.earliest) (floor_at s)) (int_min (pos g.latest) (last_of s)) in
       All-append Is (flat_map (starting s made) zs) (Drop g.number ∷ []) (starts zs) (All-cons Is (Drop g.number) [] (undropped here must) (All-nil Is))
 
+-- ---- what is tried foremost
+
+pub addition_foremost : (s : PlanState) (g : Goal) (start : ℕ) → BeginsWith (Add g.kind start (Some g.number)) (for_goal s g) → goal_at s g.number ≡ Some g → g.must ≡ true → IsForemost s (Add g.kind start (Some g.number)) (for_goal s g)
+addition_foremost s g start first here must = record { first = first; least = goal_leaves s g start here must }
+
+pub alternative_foremost : (s : PlanState) (a : Activity) → 0 < length (alternatives_at s a) → IsForemost s (Detail a.id 0) (for_undetailed s a)
+alternative_foremost s a some = record { first = detail_begins s a some; least = leave_none s (Detail a.id 0) (for_undetailed s a) refl }
+
 -- ---- candidates
 
 first_stays : (n : ℕ) (m : RepairMove) (xs : List RepairMove) → 0 < n → take n (once_from [] (m ∷ xs)) ≡ m ∷ take (n - 1) (once_from (m ∷ []) xs)
@@ -159,6 +167,10 @@ legal_foremost s k m candidate legal =
       first = filter_begins (is_legal s) m (candidates_of s k) legal candidate.first;
       least = All-filter (is_legal s) P (candidates_of s k) candidate.least
     }
+
+-- the only conflict, and the foremost of its legal candidates
+pub lone_promise : (s : PlanState) (k : Conflict) (m : RepairMove) (xs : List Conflict) → xs ≡ conflicts_of s → min (length xs) 4294967295 ≡ 1 → Some k ≡ slice_get xs 0 → IsForemost s m (legal_for s k) → IsPromising s (proposal k m)
+lone_promise s k m xs same one here foremost = record { alone = sym same ∙ only_one xs k one here; foremost = foremost }
 
 -- ---- what is chosen
 
