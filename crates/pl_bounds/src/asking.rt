@@ -85,12 +85,7 @@ fn start_at(s: &PlanState, id: u32) -> u32
 }
 
 // Of a shift to any start, given the ids of the subtree that moves.
-fn shifted(
-    alloc: Global,
-    s: &PlanState,
-    id: u32,
-    subtree: &[u32],
-) -> Result<Asking, AllocError>
+fn shifted(alloc: Global, s: &PlanState, id: u32, subtree: &[u32]) -> Result<Asking, AllocError>
     requires whole { IsWhole s.now }
     requires next { s.now.next_id ≤ 3999999000 }
     requires live { IsLive id s.now.plan.activities }

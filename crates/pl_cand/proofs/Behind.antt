@@ -65,8 +65,8 @@ module _ (s : PlanState) (part : Role) (m : RepairMove) where
       let one : list_any P (flat_map (away s part) d) ≡ false = ap (list_any P) (last_piece (away s part) done x) ∙ list_any-append P (flat_map (away s part) done) (away s part x) ∙ or_from (list_any P (flat_map (away s part) done)) (list_any P (away s part x)) each.0 no_shift in
       let two : list_any P (flat_map (moves_of s) d) ≡ false = ap (list_any P) (last_piece (moves_of s) done x) ∙ list_any-append P (flat_map (moves_of s) done) (moves_of s x) ∙ or_from (list_any P (flat_map (moves_of s) done)) (list_any P (moves_of s x)) each.1 no_move in
       let none' : list_any P (help ++ (flat_map (away s part) d ++ flat_map (moves_of s) d)) ≡ false =
-          any_three P help (flat_map (away s part) d) (flat_map (moves_of s) d)
-          ∙ or_from (list_any P help) (list_any P (flat_map (away s part) d) || list_any P (flat_map (moves_of s) d)) before.0 (or_from (list_any P (flat_map (away s part) d)) (list_any P (flat_map (moves_of s) d)) one two) in
+      any_three P help (flat_map (away s part) d) (flat_map (moves_of s) d)
+      ∙ or_from (list_any P help) (list_any P (flat_map (away s part) d) || list_any P (flat_map (moves_of s) d)) before.0 (or_from (list_any P (flat_map (away s part) d)) (list_any P (flat_map (moves_of s) d)) one two) in
       subst (λ (l : List Activity). Tells (help ++ (flat_map (away s part) l ++ flat_map (moves_of s) l)) m t) same (tells help d within none')
 
   -- the move is one of those of a user

@@ -46,5 +46,5 @@ pub meet_kept : (number : ℤ) (whole : Bool) (n : ℕ) (low next high : ℤ) (s
 meet_kept number whole n low next high step before other on some le =
     let rest : List ℤ = steps_from (n - 1) (low +ℤ pos step) high step in
     let later : list_any (int_eq number) (steps_from n low high step) ≡ list_any (int_eq number) rest =
-        ap (list_any (int_eq number)) (step_more n low high step some le) ∙ ap (λ t. t || list_any (int_eq number) rest) other in
+    ap (list_any (int_eq number)) (step_more n low high step some le) ∙ ap (λ t. t || list_any (int_eq number) rest) other in
     rw on (sym later ∙ before)

@@ -50,13 +50,7 @@ fn is_shift_of_id(mv: &RepairMove, user: u32) -> bool
 
 /// Whether a move is the shift of a live activity to a start behind the span, or to an end before it. The end is worked
 /// out only for a shift of this activity.
-pub(crate) fn is_around(
-    state: &PlanState,
-    user: &Activity,
-    a: u32,
-    b: u32,
-    mv: &RepairMove,
-) -> bool
+pub(crate) fn is_around(state: &PlanState, user: &Activity, a: u32, b: u32, mv: &RepairMove) -> bool
     requires whole { IsWhole state.now }
     requires live { activity_of user.now.id state.now.plan.activities ≡ Some user.now }
     ensures { result ≡ list_any (same_move mv.now) (around state.now a b user.now) }

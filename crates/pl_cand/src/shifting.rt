@@ -102,7 +102,9 @@ pub(crate) fn is_for_goal(state: &PlanState, goal: &Goal, mv: &RepairMove) -> bo
             kind,
             start,
             goal: served,
-        } => kind == goal.kind && served == Some(goal.number) && may_start(state, start)
+        } => kind == goal.kind
+            && served == Some(goal.number)
+            && may_start(state, start)
             && is_serving(state, goal, i64::from(start)),
         RepairMove::Drop { goal: number } => number == goal.number,
         _ => false,

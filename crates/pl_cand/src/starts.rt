@@ -96,7 +96,9 @@ pub(crate) fn is_shift_to(state: &PlanState, a: u32, to: i64, mv: &RepairMove) -
     ensures { result ≡ is_shift_to state.now a to mv.now }
 {
     match *mv {
-        RepairMove::Shift { id, start } => id == a && may_start(state, start) && i64::from(start) == to,
+        RepairMove::Shift { id, start } => id == a
+            && may_start(state, start)
+            && i64::from(start) == to,
         _ => false,
     }
 }

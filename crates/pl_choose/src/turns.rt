@@ -44,12 +44,7 @@ fn count(alloc: Global, board: &Board) -> Result<usize, AllocError>
 }
 
 // Makes one move in place of another, given the next id before both.
-fn make_instead(
-    board: &mut Board,
-    made: &Stage,
-    other: &Stage,
-    next: u32,
-) -> Result<(), AllocError>
+fn make_instead(board: &mut Board, made: &Stage, other: &Stage, next: u32) -> Result<(), AllocError>
     requires unspoiled { board.old.spoiled ≡ false }
     requires can { CanStandInstead board.old.state next made.now other.now }
     ensures { OnOk result (board.new ≡ after (with_next (next_behind next other.now) (instead board.old.state made.now other.now))) }

@@ -10,7 +10,7 @@ use Rattle.std.proofs.Math.Bool.{and-true}
 use Rattle.pl_lists.proofs.Tests.{same_test}
 use Rattle.pl_model.specs.declared.reservations.Point.{Point}
 use Rattle.pl_model.specs.declared.links.Link.{Link}
-use Rattle.pl_links.specs.declared.asked.Asked.{Asked}
+use Rattle.pl_links.specs.declared.asked.AskedPoints.{AskedPoints}
 use Rattle.pl_links.specs.declared.keys.Key.{Key}
 use Rattle.pl_links.specs.declared.placed.Placed.{Placed}
 use Rattle.pl_links.specs.Items.{is_slot, AreRising, AreApart, item_of, without, child_of}
@@ -144,7 +144,7 @@ module _ (gone : Option ℕ) (items : List Placed) (children : List Key) (rising
 
 -- ---- a partner
 
-pub point_is : (asked : Asked) (point : Point) (p : Placed) (group number : ℕ) → point_place asked point p ≡ Some (group, number) → (p.kind ≡ group) × (moment_of point p ≡ Some number)
+pub point_is : (asked : AskedPoints) (point : Point) (p : Placed) (group number : ℕ) → point_place asked point p ≡ Some (group, number) → (p.kind ≡ group) × (moment_of point p ≡ Some number)
 point_is asked point p group number = filed (is_asked asked point p.kind)
   where
     cases : (o : Option ℕ) → option_map {U = ℕ × ℕ} (λ m. (p.kind, m)) o ≡ Some (group, number) → (p.kind ≡ group) × (o ≡ Some number)
@@ -158,7 +158,7 @@ point_is asked point p group number = filed (is_asked asked point p.kind)
     filed false e = absurd (let h : None ≡ Some (group, number) = e in (cc))
     filed true e = cases (moment_of point p) e
 
-pub place_at : (asked : Asked) (point : Point) (p : Placed) (number : ℕ) → is_asked asked point p.kind ≡ true → moment_of point p ≡ Some number → point_place asked point p ≡ Some (p.kind, number)
+pub place_at : (asked : AskedPoints) (point : Point) (p : Placed) (number : ℕ) → is_asked asked point p.kind ≡ true → moment_of point p ≡ Some number → point_place asked point p ≡ Some (p.kind, number)
 place_at asked point p number on e = rw on (ap (option_map {U = ℕ × ℕ} (λ m. (p.kind, m))) e)
 
 -- what the moments of a partner tell
@@ -169,7 +169,7 @@ moments_are low high mine (Some m) e = (m, refl, e)
 abbrev pub partners : ℕ → ℕ → ℤ → ℤ → ℕ → Point → Placed → Bool
 partners own kind low high mine point other = not (eqb other.id own) && (eqb other.kind kind && are_apart low high (Some mine) (moment_of point other))
 
-module _ (gone : Option ℕ) (items : List Placed) (keys : List Key) (rising : AreRising items) (asked : Asked) (point : Point) (index : IsIndexOf (point_place asked point) items keys) (own kind mine : ℕ) (on : is_asked asked point kind ≡ true) (low high : ℤ) where
+module _ (gone : Option ℕ) (items : List Placed) (keys : List Key) (rising : AreRising items) (asked : AskedPoints) (point : Point) (index : IsIndexOf (point_place asked point) items keys) (own kind mine : ℕ) (on : is_asked asked point kind ≡ true) (low high : ℤ) where
   abbrev passes : Key → Bool
   passes k = (eqb k.group kind && is_apart low high mine k.number) && is_other own gone k.id
 

@@ -5,7 +5,7 @@ use Rattle.pl_model.specs.declared.reservations.Point.{Point}
 use Rattle.pl_model.specs.declared.reservations.Point.TheVariants.{Start, End}
 use Rattle.pl_model.specs.declared.links.Link.{Link}
 use Rattle.pl_model.specs.declared.kinds.Kind.{Kind}
-use Rattle.pl_links.specs.declared.asked.Asked.{Asked}
+use Rattle.pl_links.specs.declared.asked.AskedPoints.{AskedPoints}
 
 -- ---- what a model asks for
 
@@ -37,10 +37,10 @@ abbrev pub is_marked : Option Bool → Bool
 is_marked None = false
 is_marked (Some mark) = mark
 
-abbrev pub marks_at : Point → Asked → List Bool
+abbrev pub marks_at : Point → AskedPoints → List Bool
 marks_at Start asked = asked.starts
 marks_at End asked = asked.ends
 
 -- the point of this kind is marked
-abbrev pub is_asked : Asked → Point → ℕ → Bool
+abbrev pub is_asked : AskedPoints → Point → ℕ → Bool
 is_asked asked point kind = is_marked (slice_get (marks_at point asked) kind)

@@ -7,7 +7,7 @@ use Rattle.pl_model.specs.declared.reservations.Point.TheVariants.{Start, End}
 use Rattle.pl_model.specs.declared.links.Link.{Link}
 use Rattle.pl_links.specs.declared.placed.Placed.{Placed}
 use Rattle.pl_links.specs.declared.keys.Key.{Key}
-use Rattle.pl_links.specs.declared.asked.Asked.{Asked}
+use Rattle.pl_links.specs.declared.asked.AskedPoints.{AskedPoints}
 use Rattle.pl_links.specs.declared.files.Files.{Files}
 use Rattle.pl_links.specs.Items.{AreRising, AreApart, item_of, with_item, without}
 use Rattle.pl_links.specs.Broken.{moment_of, are_apart}
@@ -15,7 +15,7 @@ use Rattle.pl_links.specs.Keys.{IsIndexOf, is_other}
 use Rattle.pl_links.specs.Asked.{is_asked}
 
 -- a firm activity is filed under its kind, by the moment of its point, where the point is asked for
-abbrev pub point_place : Asked → Point → Placed → Option (ℕ × ℕ)
+abbrev pub point_place : AskedPoints → Point → Placed → Option (ℕ × ℕ)
 point_place asked point p =
     if is_asked asked point p.kind
     then option_map (λ m. (p.kind, m)) (moment_of point p)

@@ -9,32 +9,32 @@ use std::alloc::{AllocError, Global};
 
 /// For each kind, whether the starts of its activities are asked for, and their ends.
 #[derive(Drop)]
-pub(crate) struct Asked {
+pub(crate) struct AskedPoints {
     pub starts: Items<bool>,
     pub ends: Items<bool>,
 }
 
-impl Asked {
+impl AskedPoints {
     /// No point is asked for.
-    pub fn none(alloc: Global) -> Asked
+    pub fn none(alloc: Global) -> AskedPoints
         ensures starts { result.starts ≡ [] }
         ensures ends { result.ends ≡ [] }
     {
-        Asked {
+        AskedPoints {
             starts: Items::new(alloc),
             ends: Items::new(alloc),
         }
     }
 
     /// The points that the links of a model ask for.
-    pub fn by(alloc: Global, model: &Model) -> Result<Asked, AllocError>
+    pub fn by(alloc: Global, model: &Model) -> Result<AskedPoints, AllocError>
         ensures starts { IfOk result (λ asked.
             asked.starts ≡ asked_below Point.Start model.now.kinds (length model.now.kinds)) }
         ensures ends { IfOk result (λ asked.
             asked.ends ≡ asked_below Point.End model.now.kinds (length model.now.kinds)) }
     {
         let kinds = model.kinds.as_slice();
-        Ok(Asked {
+        Ok(AskedPoints {
             starts: marks(alloc, kinds, Point::Start)?,
             ends: marks(alloc, kinds, Point::End)?,
         })
@@ -60,9 +60,9 @@ impl Asked {
     }
 }
 
-impl Copied for Asked {
-    fn copy(&self, alloc: Global) -> Result<Asked, AllocError> {
-        Ok(Asked {
+impl Copied for AskedPoints {
+    fn copy(&self, alloc: Global) -> Result<AskedPoints, AllocError> {
+        Ok(AskedPoints {
             starts: self.starts.copy(alloc)?,
             ends: self.ends.copy(alloc)?,
         })

@@ -3,7 +3,7 @@ ghost use Rattle.std.specs.Prelude.{◌≡◌, [], OnOk, OnErr, IfOk};
 ghost use Rattle.pl_links.specs.Filed.{point_place, parent_place, AreFiles};
 ghost use Rattle.pl_links.specs.Filed.{GrowsIndex, StaysIndex, GrowFiles, StayFiles, ShrinkFiles};
 
-use crate::asked::Asked;
+use crate::asked::AskedPoints;
 use crate::files::Files;
 use crate::index::Index;
 use crate::moments::moment;
@@ -12,7 +12,7 @@ use pl_lists::Copied;
 use pl_model::{Model, Point};
 use std::alloc::{AllocError, Global};
 
-fn point_place(asked: &Asked, point: Point, item: &Placed) -> Option<(u32, u32)>
+fn point_place(asked: &AskedPoints, point: Point, item: &Placed) -> Option<(u32, u32)>
     ensures { result ≡ point_place asked.now point item.now }
 {
     if !asked.has(point, item.kind) {
@@ -29,17 +29,17 @@ impl Files {
     pub fn new(alloc: Global) -> Files
         ensures { AreFiles [] result }
     {
-        Files::asking(alloc, Asked::none(alloc))
+        Files::asking(alloc, AskedPoints::none(alloc))
     }
 
     /// No activity is filed, and the points that the links of a model ask for are asked for.
     pub fn by(alloc: Global, model: &Model) -> Result<Files, AllocError>
         ensures { IfOk result (AreFiles []) }
     {
-        Ok(Files::asking(alloc, Asked::by(alloc, model)?))
+        Ok(Files::asking(alloc, AskedPoints::by(alloc, model)?))
     }
 
-    fn asking(alloc: Global, asked: Asked) -> Files
+    fn asking(alloc: Global, asked: AskedPoints) -> Files
         ensures filed { AreFiles [] result }
         ensures asked { result.asked ≡ asked }
     {

@@ -28,7 +28,9 @@ fn digits_len(text: &[u8]) -> usize
     ensures value { result ≡ prefix_len is_number_byte text.now }
     ensures within { result ≤ length text.now }
 {
-    text.iter().take_while(|byte| is_number_byte(**byte)).count()
+    text.iter()
+        .take_while(|byte| is_number_byte(**byte))
+        .count()
 }
 
 #[tactic(auto, using(crate::proofs::Scanning::prefix_within))]

@@ -15,7 +15,8 @@ kind shot { param m 1 10 duration m }
 kind twice { param n 1 10 param m 1 10 = n * 2 duration 5 }";
 
 /// An activity, its values, whether it is firm, and its end.
-const VALUES: &str = "add 0 40;assign 1 0 7;detail 1 0;shift 2 25;add 2 10;assign 3 0 8 => 1 => [Some(7)] true Some(45)
+const VALUES: &str =
+    "add 0 40;assign 1 0 7;detail 1 0;shift 2 25;add 2 10;assign 3 0 8 => 1 => [Some(7)] true Some(45)
 add 0 40;assign 1 0 7;detail 1 0;shift 2 25;add 2 10;assign 3 0 8 => 2 => [Some(7)] true Some(32)
 add 0 40;assign 1 0 7;detail 1 0;shift 2 25;add 2 10;assign 3 0 8 => 3 => [Some(8), Some(16)] false None";
 
@@ -24,7 +25,8 @@ const TREES: &str = "add 0 40;assign 1 0 7;detail 1 0;shift 2 25;add 2 10 => 1 =
 add 0 40;assign 1 0 7;detail 1 0;shift 2 25;add 2 10 => 2 => [] [2] 1
 add 0 40;assign 1 0 7;detail 1 0;shift 2 25;add 2 10 => 3 => [] [3] 3";
 
-const CALLS: &str = "add 0 40;assign 1 0 7;detail 1 0;shift 2 25;add 2 10 => len = 3;id-at 0 = 1;id-at 1 = 2;id-at 2 = 3;id-at 3 = none;measured 2 = none;tell-end 2 31 = 31;tell-end 2 30 = 30;measured 2 = 30;measured 1 = none;put-again 1 = 3;start-of 1 = 40;take 2 = 25;take 2 = none;start-of 2 = none;measured 2 = none;tell-end 2 31 = none;len = 2;start-of 3 = 10";
+const CALLS: &str =
+    "add 0 40;assign 1 0 7;detail 1 0;shift 2 25;add 2 10 => len = 3;id-at 0 = 1;id-at 1 = 2;id-at 2 = 3;id-at 3 = none;measured 2 = none;tell-end 2 31 = 31;tell-end 2 30 = 30;measured 2 = 30;measured 1 = none;put-again 1 = 3;start-of 1 = 40;take 2 = 25;take 2 = none;start-of 2 = none;measured 2 = none;tell-end 2 31 = none;len = 2;start-of 3 = 10";
 
 const SENT: &str =
     "horizon 100 lead 30 kind a { duration 5 } kind b { duration 5 alternative { slot s a } }";
