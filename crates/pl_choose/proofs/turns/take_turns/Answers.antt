@@ -40,16 +40,16 @@ turns-preserved c =
     let count : length (map move_of stages) ≡ length stages = length-map stages move_of in
     let made = turns s c.requires.whole stages _ c.requires.stages c.requires.same at (at + 1) c.index-stages-turn.result other inv.at lt c.index-stages-turn.is c.index-stages-then.is c.turns.board inv.are.made c.make_instead.new.board (rw c.requires.next at c.in_ok-make_instead.ensures) in
     record {
-      are = turned_on s (map move_of stages) c.turns.turn c.turned-turn.result c.turns.board c.make_instead.new.board other.mv c.in_ok-left-in-turns.left inv.are
+      are = turned_on s (map move_of stages) c.turns.turn c.turned-turn.result c.turns.board c.make_instead.new.board other.mv c.in_ok-left-2.left inv.are
           (omega (arith, count, lt))
           (move_at s c.requires.whole stages _ c.requires.stages c.requires.same (at + 1) other lt c.index-stages-then.is)
-          made c.in_ok-left-in-turns.ensures c.turned-turn.ensures.at c.turned-turn.ensures.best c.turned-turn.ensures.place;
+          made c.in_ok-left-2.ensures c.turned-turn.ensures.at c.turned-turn.ensures.best c.turned-turn.ensures.place;
       at = omega (arith, c.turned-turn.ensures.at, lt);
       unspoiled = ap (λ (b : Standing). b.spoiled) made;
     }
 
-pub returns-then-turn : goal.returns-then-turn
-returns-then-turn c = enough_turned c.args.board.now.state (map move_of c.args.stages.now) c.turns.turn c.turns.board c.turns.invariant.are (omega arith)
+pub returns-then-turn-eq0 : goal.returns-then-turn-eq0
+returns-then-turn-eq0 c = enough_turned c.args.board.now.state (map move_of c.args.stages.now) c.turns.turn c.turns.board c.turns.invariant.are (omega arith)
 
 pub returns : goal.returns
 returns c =
