@@ -14,8 +14,8 @@ are_same : (xs ys : List ℕ) (r : Bool) → r ≡ not (pointwise nat_eq xs ys) 
 are_same xs ys r is e = (slice_eq-Decides Decides-eqb xs ys (pointwise nat_eq xs ys) refl).0 (by (pointwise nat_eq xs ys) (sym is ∙ e))
   where
     by : (b : Bool) → not b ≡ false → b ≡ true
-    by true no = refl
-    by false no = absurd (cc)
+    by true e = refl
+    by false e = absurd (cc)
 
 pub loop-stage-preserved : goal.loop-stage-preserved
 loop-stage-preserved c =
