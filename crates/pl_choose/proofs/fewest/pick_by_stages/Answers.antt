@@ -13,7 +13,8 @@ pick_in_turn-requires-clause-some c = some_stage c.args.stages.now _ _ c.require
 pub pick_in_turn-requires-clause-same : goal.pick_in_turn-requires-clause-same
 pick_in_turn-requires-clause-same c =
     let stages = c.args.stages.now in
-    subst (λ (gone : List ℕ). All (TakesOut gone) stages) (gone_first stages c.index-stages-0.result (some_stage stages _ _ c.requires.moves) c.index-stages-0.is) (c.take_out.ensures c.if-take_out.true)
+    let all : All (TakesOut c.index-stages-0.result.trial.change.gone.items) stages = subst (λ (gone : List ℕ). All (TakesOut gone) stages) c.deref.ensures.value (c.take_out.ensures c.if-take_out.true) in
+    subst (λ (gone : List ℕ). All (TakesOut gone) stages) (gone_first stages c.index-stages-0.result (some_stage stages _ _ c.requires.moves) c.index-stages-0.is) all
 
 pub returns-then-take_out-clause-picked : goal.returns-then-take_out-clause-picked
 returns-then-take_out-clause-picked c = rw c.requires.moves at c.pick_in_turn.ensures.picked
