@@ -68,7 +68,8 @@ pub(crate) fn stages_of(
     let mut stages = Vec::new(alloc);
     stages.push(stage_of(alloc, s, first)?)?;
     for mv in rest {
-        stages.push(stage_of(alloc, s, mv)?)?;
+        let stage = stage_of(alloc, s, mv)?;
+        stages.push(stage)?;
     }
     Ok(stages)
 }
