@@ -1,5 +1,5 @@
 -- The first move that is tried for a conflict that stands alone is chosen where it leaves no conflict.
-use Rattle.std.proofs.Common.{◌≡◌, ◌≤◌, ◌<◌, ℕ, max, min, Bool, true, false, cond, List, [], ◌∷◌, ◌++◌, length, get_or, take, map, Some, ℤ, pos, refl, sym, ap, subst, ◌∙◌, arith}
+use Rattle.std.proofs.Common.{◌≡◌, ◌≤◌, ◌<◌, ◌+◌, ◌-◌, ℕ, zero, suc, max, min, Bool, true, false, cond, List, [], ◌∷◌, ◌++◌, length, get_or, take, map, Some, ℤ, pos, refl, sym, ap, subst, ◌∙◌, arith}
 use Rattle.std.specs.Prelude.{◌≤ℤ◌, ◌-ℤ◌, ◌+ℤ◌, negsuc, ◌&&◌, ◌==◌, not, nat_lt, nat_le, find, filter, All, slice_get, option_and_then}
 use Rattle.std.specs.Int.{int_min, int_max}
 use Rattle.std.specs.List.{flat_map}
@@ -8,7 +8,6 @@ use Rattle.std.proofs.lemmas.Int.{ints, clamps}
 use Rattle.std.proofs.lemmas.Bool.{le-leb, leb-true, and_parts}
 use Rattle.std.proofs.lemmas.Bool.Decides.{nat_tests}
 use Rattle.std.proofs.lemmas.List.Elements.{All-nil, All-cons, All-head, All-tail, All-append, All-take, All-filter}
-use Rattle.pl_lists.proofs.Numbers.{le_to_test}
 use Rattle.pl_conflict.specs.declared.conflict.Conflict.{Conflict}
 use Rattle.pl_facts.specs.declared.goal.Goal.{Goal}
 use Rattle.pl_model.specs.declared.alternatives.Alternative.{Alternative}
@@ -26,6 +25,7 @@ use Rattle.pl_semantics.specs.Legal.{is_legal, has_repair, legal_for, left_after
 use Rattle.pl_semantics.proofs.Sifting.{once_keeps}
 use Rattle.pl_moves.specs.Least.{least_known}
 use Rattle.pl_moves.proofs.Undetailed.{known_least}
+use Rattle.pl_cand.proofs.Steps.{step_more}
 use Rattle.pl_cand.specs.declared.proposal.Proposal.{Proposal}
 use Rattle.pl_choose.specs.Alone.{AreEnough}
 use Rattle.pl_choose.specs.Found.{IsAllowed}
@@ -55,30 +55,42 @@ only_one (y ∷ z ∷ zs) x one is = absurd (omega (arith, one))
 -- the first number of those that are tried
 spread_begins : (low high : ℤ) → low ≤ℤ high → BeginsWith low (spread low high)
 unfolding spread
-spread_begins low high le = rw (le_to_test low high le) (begun low (steps_from 15 (low +ℤ pos (stride_of low high)) high (stride_of low high)))
+spread_begins low high le = record { more = steps_from (16 - 1) (low +ℤ pos (stride_of low high)) high (stride_of low high); is = step_more 16 low high (stride_of low high) (omega arith) le }
 
 low_is : (e f start : ℕ) → start ≡ max e f → int_max (pos e) (pos f) ≡ pos start
-low_is e f start is = omega (arith, ints, clamps, is)
+low_is e f start is = first_of (omega (arith, ints, clamps, is), grind (arith, ints, clamps, is))
 
 high_is : (l h start : ℕ) → start ≤ l → start < h → pos start ≤ℤ int_min (pos l) (pos h -ℤ pos 1)
 high_is l h start le lt = omega (arith, ints, clamps, le, lt)
 
+-- no start is tried before the present
+above_is : (e m c h start : ℕ) → start ≡ max e (max (m + 1) c) → start < h → (nat_le 1 start && nat_lt start h) ≡ true
+above_is e m c h start is lt =
+    let some : 1 ≤ start = omega (arith, is) in
+    grind (arith, nat_tests, some, lt)
+
 -- the first addition that is tried
 pub goal_begins : (s : PlanState) (g : Goal) (start : ℕ) → start ≡ max g.earliest (floor_of s) → start ≤ g.latest → start < s.model.horizon → BeginsWith (Add g.kind start (Some g.number)) (for_goal s g)
 goal_begins s g start is le lt =
-    let low : ℤ = int_max (pos g.earliest) (floor_at s) in
+    let make : ℕ → RepairMove = λ t. Add g.kind t (Some g.number) in
     let high : ℤ = int_min (pos g.latest) (last_of s) in
-    let same : low ≡ pos start = low_is g.earliest (floor_of s) start is in
+    let same : int_max (pos g.earliest) (floor_at s) ≡ pos start = low_is g.earliest (floor_of s) start is in
     let tried = spread_begins (pos start) high (high_is g.latest s.model.horizon start le lt) in
-    let above : (nat_le 1 start && nat_lt start s.model.horizon) ≡ true = grind (arith, nat_tests, is, lt) in
-    record { more = flat_map (starting s (λ t. Add g.kind t (Some g.number))) tried.more ++ Drop g.number ∷ []; is = rw (same, tried.is, above) refl }
+    let all : spread (int_max (pos g.earliest) (floor_at s)) high ≡ pos start ∷ tried.more = ap (λ (z : ℤ). spread z high) same ∙ tried.is in
+    let above : (nat_le 1 start && nat_lt start s.model.horizon) ≡ true = above_is g.earliest s.moment s.committed s.model.horizon start is lt in
+    record {
+      more = flat_map (starting s make) tried.more ++ Drop g.number ∷ [];
+      is =
+          ap (λ (zs : List ℤ). flat_map (starting s make) zs ++ Drop g.number ∷ []) all
+          ∙ ap (λ (b : Bool). (cond b (make start ∷ []) [] ++ flat_map (starting s make) tried.more) ++ Drop g.number ∷ []) above;
+    }
 
 pub detail_begins : (s : PlanState) (a : Activity) → 0 < length (alternatives_at s a) → BeginsWith (Detail a.id 0) (for_undetailed s a)
 detail_begins s a some = by (alternatives_at s a) some
   where
-    by : (alts : List Alternative) → 0 < length alts → BeginsWith (Detail a.id 0) (map (λ k. Detail a.id k.0) (numbered 0 alts) ++ delete_root s a)
+    by : (alts : List Alternative) → 0 < length alts → BeginsWith (Detail a.id 0) (map (λ (k : ℕ × Alternative). Detail a.id k.0) (numbered 0 alts) ++ delete_root s a)
     by [] none = absurd (omega (arith, none))
-    by (x ∷ xs) some = begun (Detail a.id 0) (map (λ k. Detail a.id k.0) (numbered 1 xs) ++ delete_root s a)
+    by (x ∷ xs) some = begun (Detail a.id 0) (map (λ (k : ℕ × Alternative). Detail a.id k.0) (numbered 1 xs) ++ delete_root s a)
 
 -- ---- none leaves fewer
 
@@ -121,7 +133,19 @@ module _ (s : PlanState) (g : Goal) (start : ℕ) where
       let zs : List ℤ = spread (int_max (pos g.earliest) (floor_at s)) (int_min (pos g.latest) (last_of s)) in
       All-append Is (flat_map (starting s made) zs) (Drop g.number ∷ []) (starts zs) (All-cons Is (Drop g.number) [] (undropped here must) (All-nil Is))
 
+-- ---- what is tried foremost
+
+pub addition_foremost : (s : PlanState) (g : Goal) (start : ℕ) → BeginsWith (Add g.kind start (Some g.number)) (for_goal s g) → goal_at s g.number ≡ Some g → g.must ≡ true → IsForemost s (Add g.kind start (Some g.number)) (for_goal s g)
+addition_foremost s g start first here must = record { first = first; least = goal_leaves s g start here must }
+
+pub alternative_foremost : (s : PlanState) (a : Activity) → 0 < length (alternatives_at s a) → IsForemost s (Detail a.id 0) (for_undetailed s a)
+alternative_foremost s a some = record { first = detail_begins s a some; least = leave_none s (Detail a.id 0) (for_undetailed s a) refl }
+
 -- ---- candidates
+
+first_stays : (n : ℕ) (m : RepairMove) (xs : List RepairMove) → 0 < n → take n (once_from [] (m ∷ xs)) ≡ m ∷ take (n - 1) (once_from (m ∷ []) xs)
+first_stays zero m xs some = absurd (omega (arith, some))
+first_stays (suc n) m xs some = let less : suc n - 1 ≡ n = omega arith in rw less refl
 
 pub candidate_foremost : (s : PlanState) (k : Conflict) (m : RepairMove) → IsForemost s m (tried_for s k k.code) → changes_nothing s m ≡ false → is_proper s m ≡ true → IsForemost s m (candidates_of s k)
 unfolding candidates_of
@@ -131,7 +155,7 @@ candidate_foremost s k m tried changes proper =
     let left = filter_begins (is_worth s) m all worth tried.first in
     let P : RepairMove → Type 0 = λ other. is_proper s other ≡ true → least_known s m ≤ least_known s other in
     record {
-      first = record { more = take 255 (once_from (m ∷ []) left.more); is = rw left.is refl };
+      first = record { more = take (256 - 1) (once_from (m ∷ []) left.more); is = ap (λ (l : List RepairMove). take 256 (once_from [] l)) left.is ∙ first_stays 256 m left.more (omega arith) };
       least = All-take P 256 (once_from [] (filter (is_worth s) all)) (once_keeps P [] (filter (is_worth s) all) (All-filter (is_worth s) P all tried.least))
     }
 
@@ -143,6 +167,10 @@ legal_foremost s k m candidate legal =
       first = filter_begins (is_legal s) m (candidates_of s k) legal candidate.first;
       least = All-filter (is_legal s) P (candidates_of s k) candidate.least
     }
+
+-- the only conflict, and the foremost of its legal candidates
+pub lone_promise : (s : PlanState) (k : Conflict) (m : RepairMove) (xs : List Conflict) → xs ≡ conflicts_of s → min (length xs) 4294967295 ≡ 1 → Some k ≡ slice_get xs 0 → IsForemost s m (legal_for s k) → IsPromising s (proposal k m)
+lone_promise s k m xs same one here foremost = record { alone = sym same ∙ only_one xs k one here; foremost = foremost }
 
 -- ---- what is chosen
 

@@ -44,6 +44,7 @@ fn are_undemanding(state: &PlanState, slots: &[Slot]) -> bool {
 // ---- the first move
 
 // The first start that is tried for a goal, where one is.
+#[tactic(auto, using(crate::proofs::Promise::goal_begins))]
 fn first_start(state: &PlanState, goal: &Goal) -> Option<u32>
     requires { IsWhole state.now }
     ensures { IfSome result (λ start. BeginsWith (Add goal.now.kind start (Some goal.now.number)) (for_goal state.now goal.now)) }
@@ -57,6 +58,7 @@ fn first_start(state: &PlanState, goal: &Goal) -> Option<u32>
 }
 
 // The first addition that is tried for a goal that may not be dropped, where one is.
+#[tactic(auto, using(crate::proofs::Promise::addition_foremost))]
 fn first_addition(state: &PlanState, goal: &Goal) -> Option<RepairMove>
     requires whole { IsWhole state.now }
     requires goal { goal_at state.now goal.now.number ≡ Some goal.now }
@@ -99,6 +101,7 @@ fn first_for_goal(state: &PlanState, number: u32) -> Option<RepairMove>
 }
 
 // The first alternative of an activity, where its kind has some.
+#[tactic(auto, using(crate::proofs::Promise::alternative_foremost))]
 fn first_alternative(state: &PlanState, a: &Activity) -> Option<RepairMove>
     ensures foremost { IfSome result (λ m. IsForemost state.now m (for_undetailed state.now a.now)) }
     ensures changes { IfSome result (λ m. changes_nothing state.now m ≡ false) }
@@ -137,6 +140,7 @@ fn first_tried(state: &PlanState, k: &Conflict) -> Option<RepairMove>
 }
 
 // The first candidate of such a conflict, where the first move that is tried is one.
+#[tactic(auto, using(crate::proofs::Promise::candidate_foremost))]
 fn first_candidate(board: &Board, k: &Conflict) -> Option<RepairMove>
     requires { board.now.spoiled ≡ false }
     ensures foremost { IfSome result (λ m. IsForemost board.now.state m (candidates_of board.now.state k.now)) }
@@ -147,6 +151,7 @@ fn first_candidate(board: &Board, k: &Conflict) -> Option<RepairMove>
 }
 
 // The first legal candidate of such a conflict, where the first move that is tried is one.
+#[tactic(auto, using(crate::proofs::Promise::legal_foremost))]
 fn first_legal(board: &Board, k: &Conflict) -> Option<RepairMove>
     requires { board.now.spoiled ≡ false }
     ensures { IfSome result (λ m. IsForemost board.now.state m (legal_for board.now.state k.now)) }
@@ -156,6 +161,7 @@ fn first_legal(board: &Board, k: &Conflict) -> Option<RepairMove>
 }
 
 /// The foremost legal candidate of the only conflict, where it is told without a list.
+#[tactic(auto, using(crate::proofs::Promise::lone_promise))]
 pub(crate) fn promising(board: &Board) -> Option<Proposal>
     requires { board.now.spoiled ≡ false }
     ensures { IfSome result (IsPromising board.now.state) }
