@@ -156,7 +156,7 @@ candidate_foremost s k m tried changes proper =
     let P : RepairMove → Type 0 = λ other. is_proper s other ≡ true → least_known s m ≤ least_known s other in
     record {
       first = record { more = take (256 - 1) (once_from (m ∷ []) left.more); is = ap (λ (l : List RepairMove). take 256 (once_from [] l)) left.is ∙ first_stays 256 m left.more (omega arith) };
-      least = All-take P 256 (once_from [] (filter (is_worth s) all)) (once_keeps P [] (filter (is_worth s) all) (All-filter (is_worth s) P all tried.least))
+      least = All-take P 256 (once_from [] (filter (is_worth s) all)) (once_keeps P [] (filter (is_worth s) all) (All-filter (is_worth s) P all tried.least));
     }
 
 pub legal_foremost : (s : PlanState) (k : Conflict) (m : RepairMove) → IsForemost s m (candidates_of s k) → is_legal s m ≡ true → IsForemost s m (legal_for s k)
@@ -165,7 +165,7 @@ legal_foremost s k m candidate legal =
     let P : RepairMove → Type 0 = λ other. is_proper s other ≡ true → least_known s m ≤ least_known s other in
     record {
       first = filter_begins (is_legal s) m (candidates_of s k) legal candidate.first;
-      least = All-filter (is_legal s) P (candidates_of s k) candidate.least
+      least = All-filter (is_legal s) P (candidates_of s k) candidate.least;
     }
 
 -- the only conflict, and the foremost of its legal candidates

@@ -22,7 +22,10 @@ use pl_semantics::PlanState;
 // ---- what is likely to leave no conflict: any answer would do, and owes no proof
 
 fn needs_state(reservation: &Reservation) -> bool {
-    matches!(reservation, Reservation::Put(_, _, _) | Reservation::Must(_, _))
+    matches!(
+        reservation,
+        Reservation::Put(_, _, _) | Reservation::Must(_, _)
+    )
 }
 
 // Whether it asks for no partner and for no state.
