@@ -10,9 +10,8 @@ use Rattle.pl_conflict.specs.Order.{has}
 use Rattle.pl_conflict.proofs.Sorting.{same, same_is}
 use Rattle.pl_moves.specs.Least.{least_known}
 use Rattle.pl_moves.specs.Runs.{CanBeMade}
-use Rattle.pl_update.specs.GoalsAndActivities.Near.{near, HoldSame}
+use Rattle.pl_update.specs.GoalsAndActivities.Near.{near}
 use Rattle.pl_update.specs.GoalsAndActivities.Touched.{touched_goals, touched_ids}
-use Rattle.pl_update.proofs.AboutGoalsAndActivities.Touching.{follows_same}
 use Rattle.pl_plan.specs.declared.repair.RepairMove.TheVariants.{Add, Delete}
 use Rattle.pl_plan.specs.Fitting.{alternatives_of}
 use Rattle.pl_plan.specs.Trees.{subtree_of}
@@ -24,13 +23,13 @@ use Rattle.pl_semantics.specs.Parts.{part_of, of_activities}
 use Rattle.pl_semantics.specs.Whole.{IsWhole}
 use Rattle.pl_bounds.specs.Counts.{AreApart}
 use Rattle.pl_bounds.specs.Plain.{is_plain, is_plain_part, count_of_plain}
-use Rattle.pl_bounds.specs.Standing.{HasUnset, IsLeftByNew, IsLeftByShift, IsOpenWithout, IsStandingOf, IsUnsetThen}
+use Rattle.pl_bounds.specs.Standing.{count_of_elsewhere, is_elsewhere, HasUnset, IsLeftByNew, IsLeftByShift, IsOpenWithout, IsStandingOf, IsUnsetThen}
 use Rattle.pl_bounds.specs.declared.standing.Standing.{Standing}
-use Rattle.pl_bounds.proofs.Around.{left_around}
 use Rattle.pl_bounds.proofs.Differing.{has_passing}
 use Rattle.pl_bounds.proofs.Following.{all_but_wrong, is_kept, kept_stays, near_new, none_wrong_new}
 use Rattle.pl_bounds.proofs.Made.{follows, whole_then}
 use Rattle.pl_bounds.proofs.Reopened.{again, is_new, stands_again}
+use Rattle.pl_bounds.proofs.Others.{deletion_leaves, most_after_shift}
 use Rattle.pl_bounds.proofs.Shifted.{shift_left}
 use Rattle.pl_bounds.proofs.Leaving.{left_are_few, standing_apart}
 use Rattle.pl_bounds.proofs.Opens.{wrong_stands}
@@ -54,31 +53,32 @@ with_one t ks are k none stands plain = record { apart = (none, are.apart); each
 
 -- ---- a deletion
 
-module _ (s : PlanState) (whole : IsWhole s) (next : s.next_id ≤ 3999999000) (id : ℕ) (can : CanBeMade s (Delete id)) (numbers ids : List ℕ) (same_numbers : HoldSame numbers (touched_goals s (subtree_of id s.plan.activities) [])) (same_ids : HoldSame ids (touched_ids s (subtree_of id s.plan.activities) [])) where
+module _ (s : PlanState) (whole : IsWhole s) (next : s.next_id ≤ 3999999000) (id : ℕ) (can : CanBeMade s (Delete id)) where
   abbrev gone : PlanState
   gone = applied s (Delete id)
 
+  abbrev is_other : Conflict → Bool
+  is_other = is_elsewhere (subtree_of id s.plan.activities)
+
   abbrev others_than : List Conflict
-  others_than = filter (is_kept (near s numbers ids)) (conflicts_of s)
+  others_than = filter is_other (conflicts_of s)
 
   whole_gone : IsWhole gone
   whole_gone = whole_then s whole next (Delete id) tt can
 
   stay_then : (q : Conflict) → has q others_than ≡ true → (has q (conflicts_of gone) ≡ true) × (is_plain q ≡ true)
-  stay_then =
-      kept_stays s gone whole whole_gone numbers ids
-      (follows_same s gone (touched_goals s (subtree_of id s.plan.activities) []) (touched_ids s (subtree_of id s.plan.activities) []) numbers ids (follows s whole next (Delete id) tt can) same_numbers same_ids)
+  stay_then = deletion_leaves s whole next id can
 
   others_stay : length others_than ≤ count_of_plain gone
-  others_stay = left_are_few gone others_than (standing_apart s (is_kept (near s numbers ids))) stay_then
+  others_stay = left_are_few gone others_than (standing_apart s is_other) stay_then
 
   -- where its goal is open again
   one_comes : IsOpenWithout s id → suc (length others_than) ≤ count_of_plain gone
-  one_comes of = left_are_few gone (again s whole id of whole_gone ∷ others_than) (not_there, standing_apart s (is_kept (near s numbers ids))) each
+  one_comes of = left_are_few gone (again s whole id of whole_gone ∷ others_than) (not_there, standing_apart s is_other) each
     where
       not_there : has (again s whole id of whole_gone) others_than ≡ false
       not_there = false_from_ne_true (has (again s whole id of whole_gone) others_than) (λ h. absurd (
-          let there = (has_passing (is_kept (near s numbers ids)) (conflicts_of s) (again s whole id of whole_gone) h).0 in
+          let there = (has_passing is_other (conflicts_of s) (again s whole id of whole_gone) h).0 in
           let bad : true ≡ false = sym there ∙ is_new s whole id of whole_gone in
           cc))
 
@@ -91,15 +91,9 @@ module _ (s : PlanState) (whole : IsWhole s) (next : s.next_id ≤ 3999999000) (
               subst (λ (k : Conflict). (has k (conflicts_of gone) ≡ true) × (is_plain k ≡ true)) is (stands_again s whole id of whole_gone, refl)
           by_first false e there = stay_then q there
 
-  pub delete_left : (most : ℕ) → most ≤ count_of_plain s → (b : Bool) → (b ≡ true → IsOpenWithout s id) → (most - length (near s numbers ids)) + cond b 1 0 ≤ count_of_plain gone
-  delete_left most low b reopened = by b reopened
-    where
-      enough : most ≤ length others_than + length (near s numbers ids)
-      enough = let all = all_but_wrong s (near s numbers ids) in omega (arith, all, low)
-
-      by : (b : Bool) → (b ≡ true → IsOpenWithout s id) → (most - length (near s numbers ids)) + cond b 1 0 ≤ count_of_plain gone
-      by true so = let left = one_comes (so refl) in omega (arith, enough, left)
-      by false so = let left = others_stay in omega (arith, enough, left)
+  pub delete_left : (most : ℕ) → most ≤ count_of_elsewhere s (subtree_of id s.plan.activities) → (b : Bool) → (b ≡ true → IsOpenWithout s id) → most + cond b 1 0 ≤ count_of_plain gone
+  delete_left most low true so = let left = one_comes (so refl) in omega (arith, low, left)
+  delete_left most low false so = let left = others_stay in omega (arith, low, left)
 
 -- ---- a new root
 
@@ -182,10 +176,9 @@ unmoved_left s whole next o of id n few = λ to can.
     let most = of.unmoved in
     omega (arith, few, most, left)
 
--- and all that is wrong but near its subtree: the greater of both
-pub greater_left : (s : PlanState) → IsWhole s → s.next_id ≤ 3999999000 → (o : Standing) → IsStandingOf s o → (id : ℕ) (numbers ids : List ℕ) → HoldSame numbers (touched_goals s (subtree_of id s.plan.activities) []) → HoldSame ids (touched_ids s (subtree_of id s.plan.activities) [])
-    → (n : ℕ) → n ≤ max o.unmoved (o.wrong - length (near s numbers ids)) → IsLeftByShift s id n
-greater_left s whole next o of id numbers ids same_numbers same_ids n few = λ to can.
+-- and all but what is wrong with its subtree: the greater of both
+pub greater_left : (s : PlanState) → IsWhole s → s.next_id ≤ 3999999000 → (o : Standing) → IsStandingOf s o → (id others : ℕ) → others ≤ count_of_elsewhere s (subtree_of id s.plan.activities) → (n : ℕ) → n ≤ max o.unmoved others → IsLeftByShift s id n
+greater_left s whole next o of id others most n few = λ to can.
     let one = unmoved_left s whole next o of id o.unmoved (omega arith) to can in
-    let other = left_around s whole next id to can numbers ids same_numbers same_ids o.wrong of.plain in
-    omega (arith, few, one, other)
+    let other = most_after_shift s whole next id to can in
+    omega (arith, few, one, most, other)

@@ -1,5 +1,5 @@
 -- Conflicts of goals and of activities that stand, and how many of them a move leaves at least.
-use Rattle.std.specs.Prelude.{◌≡◌, ℕ, ◌≤◌, ◌==◌, Bool, true, false, [], ◌∷◌, Option, Some, filter, length}
+use Rattle.std.specs.Prelude.{◌≡◌, ℕ, ◌≤◌, ◌==◌, ◌&&◌, ◌||◌, not, Bool, true, false, List, [], ◌∷◌, Option, Some, filter, length}
 use Rattle.pl_conflict.specs.declared.conflict.Conflict.{Conflict}
 use Rattle.pl_conflict.specs.declared.conflict.Code.{Code}
 use Rattle.pl_conflict.specs.Codes.{code_number}
@@ -11,10 +11,10 @@ use Rattle.pl_semantics.specs.declared.plan_state.PlanState.{PlanState}
 use Rattle.pl_facts.specs.declared.goal.Goal.{Goal}
 use Rattle.pl_plan.specs.declared.activity.Activity.{Activity}
 use Rattle.pl_plan.specs.Serving.{served_in, serving}
-use Rattle.pl_semantics.specs.PlanStates.{floor_of, found, goal_at}
+use Rattle.pl_semantics.specs.PlanStates.{among, floor_of, found, goal_at}
 use Rattle.pl_semantics.specs.Conflicts.{conflicts_of}
 use Rattle.pl_semantics.specs.Moves.{applied}
-use Rattle.pl_bounds.specs.Plain.{count_of_plain}
+use Rattle.pl_bounds.specs.Plain.{is_plain, count_of_plain}
 use Rattle.pl_bounds.specs.declared.standing.Standing.{Standing}
 
 -- a shift changes at most from when it is told: an open goal, or what is wrong with an activity but for its start
@@ -44,6 +44,18 @@ is_valueless_one q = is_valueless q.code
 -- how many of them stand
 abbrev pub count_of_valueless : PlanState → ℕ
 count_of_valueless s = length (filter is_valueless_one (conflicts_of s))
+
+-- it tells of an open goal
+abbrev pub is_open_one : Conflict → Bool
+is_open_one q = code_number q.code == code_number code.OpenGoal
+
+-- an open goal, or what is wrong with an activity that is none of these
+abbrev pub is_elsewhere : List ℕ → Conflict → Bool
+is_elsewhere ids q = is_plain q && (is_open_one q || not (among q.subject ids))
+
+-- how many of them stand
+abbrev pub count_of_elsewhere : PlanState → List ℕ → ℕ
+count_of_elsewhere s ids = length (filter (is_elsewhere ids) (conflicts_of s))
 
 -- no more than stand
 pub record IsStandingOf (s : PlanState) (o : Standing) : Type 0 where

@@ -59,20 +59,18 @@ fn known_of_new(
 fn known_of_deletion(
     alloc: Global,
     board: &Board,
-    standing: &Standing,
     id: u32,
     is_asked: bool,
 ) -> Result<Known, AllocError>
     requires unspoiled { board.now.spoiled ≡ false }
     requires next { board.now.state.next_id ≤ 3999999000 }
-    requires standing { IsStandingOf board.now.state standing.now }
     requires allowed { CanBeMade board.now.state (Delete id) }
     ensures known { IfOk result (λ k. IsKnownOf board.now.state k) }
     ensures alike { IfOk result (λ k. IsAlike k.first (Delete id)) }
 {
     let s = board.state();
     let subtree = s.plan.subtree(alloc, id)?;
-    let steady = left_by_deletion(alloc, s, standing.wrong, id, &subtree)?;
+    let steady = left_by_deletion(alloc, board, id, &subtree)?;
     let asking = deleted_if(alloc, board, &subtree, is_asked)?;
     Ok(Known {
         first: RepairMove::Delete { id },
@@ -100,7 +98,7 @@ fn known_of_shift(
 {
     let s = board.state();
     let subtree = s.plan.subtree(alloc, id)?;
-    let steady = left_by_shift(alloc, s, standing, id, &subtree)?;
+    let steady = left_by_shift(board, standing, id, &subtree);
     let asking = shifted_if(alloc, board, id, &subtree, is_asked)?;
     Ok(Known {
         first: RepairMove::Shift { id, start },
@@ -142,7 +140,7 @@ pub(crate) fn known_of(
         RepairMove::Add { kind, start, goal } => known_of_new(
             alloc, s, standing, kind, start, goal,
         ),
-        RepairMove::Delete { id } => known_of_deletion(alloc, board, standing, id, is_asked),
+        RepairMove::Delete { id } => known_of_deletion(alloc, board, id, is_asked),
         RepairMove::Shift { id, start } => known_of_shift(
             alloc, board, standing, id, start, is_asked,
         ),

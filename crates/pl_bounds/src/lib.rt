@@ -6,6 +6,7 @@ mod alone;
 mod asking;
 mod bounding;
 mod bounds;
+mod elsewhere;
 mod known;
 mod laws;
 mod looking;
