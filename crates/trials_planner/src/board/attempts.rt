@@ -14,14 +14,13 @@ add 0 5;add 0 10;goal 1 40 60 may => 1 delete 2 => Made 3 => 60 open-goal 1 0 40
 add 0 5;add 0 10;goal 1 40 60 may => none drop 1 => Undone { left: 1 } 3 => 10 over 0 0 10 15;60 open-goal 1 0 40 60
 add 0 5;add 0 10;goal 1 40 60 may => 1 drop 1 => Made 3 => 10 over 0 0 10 15";
 
-/// The same plan where a move is made at once.
-const MADE: &str = "add 0 5;add 0 10;goal 1 40 60 may => 10 over 0 0 10 15;60 open-goal 1 0 40 60
-add 0 5;add 0 10;goal 1 40 60 may;shift 2 15 => 60 open-goal 1 0 40 60
-add 0 5;add 0 10;goal 1 40 60 may;drop 1 => 10 over 0 0 10 15";
+/// The same plan where a move is made at once, and what is wrong then.
+const MADE: &str = "add 0 5;add 0 10;goal 1 40 60 may => shift 2 15 => 60 open-goal 1 0 40 60
+add 0 5;add 0 10;goal 1 40 60 may => drop 1 => 10 over 0 0 10 15";
 
 const TABLES: [Table; 2] = [
     (Asked::Attempt, CAPACITY, TRIED),
-    (Asked::Wrong, CAPACITY, MADE),
+    (Asked::Made, CAPACITY, MADE),
 ];
 
 #[test]

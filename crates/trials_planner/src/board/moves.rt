@@ -7,7 +7,7 @@ use crate::reading::{sides, word};
 use pl_board::Board;
 use pl_bounds::least_of_each;
 use pl_cand::candidates;
-use pl_moves::{attempt, is_legal, legal};
+use pl_moves::{attempt, is_legal, legal, make};
 use pl_plan::RepairMove;
 use pl_points::{Quiet, Steps};
 use std::alloc::Global;
@@ -76,4 +76,15 @@ pub fn comes_of(alloc: Global, board: &mut Board, row: &str) -> Option<bool> {
     } else {
         Some(false)
     }
+}
+
+/// Whether this is wrong behind a legal move.
+pub fn is_made(alloc: Global, board: &mut Board, row: &str) -> Option<bool> {
+    let (line, conflicts) = sides(row);
+    let mv = repair(line);
+    if !can_make(board, &mv) {
+        return None;
+    }
+    make(alloc, board, &mv, &mut Steps::new(Quiet)).ok()?;
+    are_conflicts(alloc, board, conflicts)
 }

@@ -78,11 +78,12 @@ fn make(machine: &mut Machine, call: &str) -> Option<Result<Reply, Stop>> {
     }
 }
 
-fn choice(machine: &Machine) -> Option<Choice> {
+/// What the executive chooses. There is no answer where memory was wanting.
+fn choice(machine: &Machine) -> Option<Option<Choice>> {
     if machine.spoiled() {
         None
     } else {
-        machine.exec_choice()
+        Some(machine.exec_choice())
     }
 }
 
@@ -119,7 +120,7 @@ fn logged(alloc: Global, machine: &Machine) -> Result<String, AllocError> {
 /// What is printed of a question's answer, or of the reply to a call or a message.
 fn said(alloc: Global, machine: &mut Machine, call: &str) -> Option<String> {
     let printed = match call {
-        "choice" => format!(in alloc; "{:?}", choice(machine)),
+        "choice" => format!(in alloc; "{:?}", choice(machine)?),
         "propose" => format!(in alloc; "{:?}", machine.propose(&mut Least)),
         "halted" => format!(in alloc; "{}", machine.halted()),
         "stuck" => format!(in alloc; "{}", stuck(alloc, machine)?),
