@@ -32,12 +32,11 @@ use Rattle.pl_semantics.proofs.Subjects.{off_is, wrong_is}
 use Rattle.pl_update.specs.GoalsAndActivities.Near.{near}
 use Rattle.pl_update.specs.GoalsAndActivities.Touched.{children_at, touched_goals, touched_ids}
 use Rattle.pl_update.proofs.AboutLinks.Nearby.{among-append}
-use Rattle.pl_bounds.specs.Plain.{is_plain, count_of_plain}
-use Rattle.pl_bounds.specs.Standing.{count_of_elsewhere, is_elsewhere, is_open_one}
+use Rattle.pl_bounds.specs.Plain.{is_plain}
+use Rattle.pl_bounds.specs.Standing.{is_elsewhere, is_open_one}
 use Rattle.pl_bounds.proofs.Around.{serve_before, touch_same}
 use Rattle.pl_bounds.proofs.Differing.{has_passing}
 use Rattle.pl_bounds.proofs.Following.{plain_is}
-use Rattle.pl_bounds.proofs.Leaving.{left_are_few, standing_apart}
 use Rattle.pl_bounds.proofs.Made.{follows, stays, whole_then}
 use Rattle.pl_bounds.proofs.Opens.{open_not_served, open_stands, untouched}
 use Rattle.pl_bounds.proofs.Unmoved.{steady}
@@ -155,8 +154,3 @@ module _ (s : PlanState) (whole : IsWhole s) (next : s.next_id ≤ 3999999000) (
 
   pub shift_leaves : (to : ℕ) → CanBeMade s (Shift id to) → (q : Conflict) → has q (filter (is_elsewhere (subtree_of id s.plan.activities)) (conflicts_of s)) ≡ true → (has q (conflicts_of (applied s (Shift id to))) ≡ true) × (is_plain q ≡ true)
   shift_leaves to can = elsewhere_stays s whole next (Shift id to) tt can (subtree_of id s.plan.activities) (serve_before s whole id to can) (λ n apart. touch_same s whole id to can n ∙ apart_from s whole id n apart)
-
-  pub most_after_shift : (to : ℕ) → CanBeMade s (Shift id to) → count_of_elsewhere s (subtree_of id s.plan.activities) ≤ count_of_plain (applied s (Shift id to))
-  most_after_shift to can =
-      let ids = subtree_of id s.plan.activities in
-      left_are_few (applied s (Shift id to)) (filter (is_elsewhere ids) (conflicts_of s)) (standing_apart s (is_elsewhere ids)) (shift_leaves to can)

@@ -5,7 +5,7 @@ use Rattle.pl_conflict.specs.declared.conflict.Code.{Code}
 use Rattle.pl_conflict.specs.Codes.{code_number}
 use Rattle.pl_conflict.specs.Order.{has}
 use Rattle.pl_conflict.specs.declared.conflict.Code.TheVariants as code
-use Rattle.pl_plan.specs.declared.repair.RepairMove.TheVariants.{Add, Shift}
+use Rattle.pl_plan.specs.declared.repair.RepairMove.TheVariants.{Add}
 use Rattle.pl_moves.specs.Runs.{CanBeMade}
 use Rattle.pl_semantics.specs.declared.plan_state.PlanState.{PlanState}
 use Rattle.pl_facts.specs.declared.goal.Goal.{Goal}
@@ -96,7 +96,3 @@ IsUnsetThen s kind goal = (t : ℕ) → CanBeMade s (Add kind t goal) → HasUns
 -- a number of conflicts of goals and activities that a new root of this kind for this goal leaves at least, whenever it starts
 abbrev pub IsLeftByNew : PlanState → ℕ → Option ℕ → ℕ → Type 0
 IsLeftByNew s kind goal n = (to : ℕ) → CanBeMade s (Add kind to goal) → n ≤ count_of_plain (applied s (Add kind to goal))
-
--- and one that a shift leaves at least, to whichever start
-abbrev pub IsLeftByShift : PlanState → ℕ → ℕ → Type 0
-IsLeftByShift s id n = (to : ℕ) → CanBeMade s (Shift id to) → n ≤ count_of_plain (applied s (Shift id to))

@@ -75,7 +75,8 @@ fn least_by(board: &Board, outsides: &[Outside], run: &Run, mv: &RepairMove) -> 
 {
     let others = others_by(board, outsides, run, mv);
     let lone = lone_then(board, run.known.alone, start_of(mv));
-    let least = run.known.steady.saturating_add(lone).saturating_add(others);
+    let steady = run.known.steady_at(start_of(mv));
+    let least = steady.saturating_add(lone).saturating_add(others);
     least.max(least_left(board.state(), mv))
 }
 

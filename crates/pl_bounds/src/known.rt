@@ -4,28 +4,39 @@ ghost use Rattle.pl_moves.specs.Runs.{CanBeMade};
 ghost use Rattle.pl_plan.specs.declared.repair.RepairMove.TheVariants.{Add, Delete, Shift};
 ghost use Rattle.pl_semantics.specs.Whole.{IsWhole};
 ghost use Rattle.pl_bounds.specs.Asked.{IsAlike};
-ghost use Rattle.pl_bounds.specs.Known.{IsKnownOf, only_steady};
+ghost use Rattle.pl_bounds.specs.Known.{IsKnownOf, only_steady, steady_then};
 ghost use Rattle.pl_bounds.specs.Standing.{IsStandingOf};
 
 use crate::asking::{Asking, added, deleted_if, shifted_if};
 use crate::roots::root_alone;
-use crate::standing::Standing;
+use crate::standing::{Standing, count_if};
 use crate::steady::{left_by_deletion, left_by_new, left_by_shift};
 use crate::tying::{added_alone, moved_alone};
+use crate::window::{Window, is_off, window_of};
 use pl_board::Board;
 use pl_links::Placed;
 use pl_plan::RepairMove;
 use pl_semantics::PlanState;
 use std::alloc::{AllocError, Global};
 
-/// Of a move, and of those that go on with it: how many conflicts of goals and activities each leaves at least, the activity that it
-/// moves alone or adds, and what it asks for.
+/// Of a move, and of those that go on with it: how many conflicts of goals and activities each leaves at least, and one more where it
+/// starts outside a window; the activity that it moves alone or adds; and what it asks for.
 #[derive(Drop)]
 pub(crate) struct Known {
     pub(crate) first: RepairMove,
-    pub(crate) steady: u32,
+    steady: u32,
+    window: Option<Window>,
     pub(crate) alone: Option<Placed>,
     pub(crate) asking: Option<Asking>,
+}
+
+impl Known {
+    /// So many conflicts of goals and activities the move leaves at least that starts then.
+    pub(crate) fn steady_at(&self, start: u32) -> u32
+        ensures { result ≤ steady_then self.now start }
+    {
+        count_if(is_off(self.window, start), self.steady)
+    }
 }
 
 // Of the addition of a root, which is made once, alone in a plan of its own.
@@ -50,6 +61,7 @@ fn known_of_new(
     Ok(Known {
         first: RepairMove::Add { kind, start, goal },
         steady,
+        window: None,
         alone: Some(added_alone(&alone, s.next_id, kind, start)),
         asking: Some(asking),
     })
@@ -75,6 +87,7 @@ fn known_of_deletion(
     Ok(Known {
         first: RepairMove::Delete { id },
         steady,
+        window: None,
         alone: None,
         asking,
     })
@@ -103,6 +116,7 @@ fn known_of_shift(
     Ok(Known {
         first: RepairMove::Shift { id, start },
         steady,
+        window: window_of(s, id),
         alone: moved_alone(board, id, &subtree),
         asking,
     })
@@ -115,6 +129,7 @@ fn known_of_other(mv: &RepairMove, steady: u32) -> Known
     Known {
         first: *mv,
         steady,
+        window: None,
         alone: None,
         asking: None,
     }

@@ -26,6 +26,7 @@ mod ties;
 mod tying;
 mod unset;
 mod until;
+mod window;
 mod worsening;
 
 pub use bounds::least_of_each;

@@ -8,7 +8,8 @@ ghost use Rattle.pl_semantics.specs.Moves.{applied};
 ghost use Rattle.pl_semantics.specs.Whole.{IsWhole};
 ghost use Rattle.pl_bounds.specs.Askings.{root_alone};
 ghost use Rattle.pl_bounds.specs.Plain.{count_of_plain};
-ghost use Rattle.pl_bounds.specs.Standing.{IsLeftByNew, IsLeftByShift, IsStandingOf};
+ghost use Rattle.pl_bounds.specs.Standing.{IsLeftByNew, IsStandingOf};
+ghost use Rattle.pl_bounds.specs.Windows.{IsLeftByShift};
 
 use crate::elsewhere::count_elsewhere;
 use crate::reopening::is_open_without;

@@ -1,9 +1,11 @@
 use Rattle.std.proofs.Common.{◌∙◌, ap, sym, subst}
+use Rattle.std.specs.Prelude.{IfSome}
 use Rattle.pl_plan.specs.declared.repair.RepairMove.TheVariants.{Shift}
 use Rattle.pl_plan.specs.Activities.{IsLive}
 use Rattle.pl_plan.specs.Trees.{subtree_of}
 use Rattle.pl_moves.proofs.Made.{named_live}
 use Rattle.pl_semantics.specs.declared.plan_state.PlanState.{PlanState}
+use Rattle.pl_bounds.specs.Windows.{IsWindowOf}
 use Rattle.pl_bounds.proofs.Knowing.{known_shift}
 use Rattle.pl_bounds.proofs.known.known_of_shift.Goals as goal
 
@@ -28,4 +30,5 @@ pub returns-clause-known : goal.returns-clause-known
 returns-clause-known c =
     let s = c.args.board.now.state in
     let id = c.args.id in
-    known_shift s id c.args.start c.left_by_shift-steady.result c.left_by_shift-steady.ensures c.moved_alone.result c.moved_alone.ensures c.in_ok-asking.asking (c.in_ok-asking.ensures c.args.start)
+    let window = subst (λ (t : PlanState). IfSome c.window_of.result (λ w. IsWindowOf t id w)) c.state-s.ensures.value c.window_of.ensures in
+    known_shift s id c.args.start c.left_by_shift-steady.result c.left_by_shift-steady.ensures c.window_of.result window c.moved_alone.result c.moved_alone.ensures c.in_ok-asking.asking (c.in_ok-asking.ensures c.args.start)
