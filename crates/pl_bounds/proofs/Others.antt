@@ -2,9 +2,9 @@
 use Rattle.std.proofs.Common.{◌≡◌, ℕ, ◌≤◌, eqb, Bool, true, false, List, [], ◌∷◌, ◌++◌, filter, length, Option, Some, None, refl, sym, ap, ◌∙◌, inl, inr}
 use Rattle.std.specs.Prelude.{◌||◌, ◌&&◌, ◌⊎◌, not, nat_le, is_some}
 use Rattle.std.specs.List.{flat_map, filter_map}
-use Rattle.std.proofs.lemmas.Bool.{and_parts, eq-eqb, eqb-true, false_from_ne_true, not-true, or_from, or_left, or_right}
+use Rattle.std.proofs.lemmas.Bool.{and_parts, eq-eqb, false_from_ne_true, not-true, or_from, or_left, or_right}
 use Rattle.pl_lists.proofs.Elements.{any_agree}
-use Rattle.pl_lists.proofs.Tests.{and_first, same_test}
+use Rattle.pl_lists.proofs.Tests.{and_first}
 use Rattle.pl_conflict.specs.declared.conflict.Conflict.{Conflict}
 use Rattle.pl_conflict.specs.Order.{has}
 use Rattle.pl_moves.specs.Changes.{IsOfActivities, gone_by, placed_by}
@@ -39,12 +39,10 @@ use Rattle.pl_bounds.proofs.Differing.{has_passing}
 use Rattle.pl_bounds.proofs.Following.{plain_is}
 use Rattle.pl_bounds.proofs.Made.{follows, stays, whole_then}
 use Rattle.pl_bounds.proofs.Opens.{open_not_served, open_stands, untouched}
+use Rattle.pl_bounds.proofs.Under.{turned}
 use Rattle.pl_bounds.proofs.Unmoved.{steady}
 
 -- ---- numbers among others
-
-turned : (m n : ℕ) → eqb m n ≡ eqb n m
-turned m n = same_test (eqb m n) (eqb n m) (λ e. eq-eqb n m (sym (eqb-true m n e))) (λ e. eq-eqb m n (sym (eqb-true n m e)))
 
 first_among : (i : ℕ) (ids : List ℕ) → among i (i ∷ ids) ≡ true
 first_among i ids = or_left (eqb i i) (among i ids) (eq-eqb i i refl)

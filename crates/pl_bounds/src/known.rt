@@ -11,6 +11,7 @@ use crate::asking::{Asking, added, deleted_if, shifted_if};
 use crate::roots::root_alone;
 use crate::standing::{Standing, count_if};
 use crate::steady::{left_by_deletion, left_by_new, left_by_shift};
+use crate::subtrees::subtree;
 use crate::tying::{added_alone, moved_alone};
 use crate::window::{Window, is_off, window_of};
 use pl_board::Board;
@@ -81,7 +82,7 @@ fn known_of_deletion(
     ensures alike { IfOk result (λ k. IsAlike k.first (Delete id)) }
 {
     let s = board.state();
-    let subtree = s.plan.subtree(alloc, id)?;
+    let subtree = subtree(alloc, s, id)?;
     let steady = left_by_deletion(alloc, board, id, &subtree)?;
     let asking = deleted_if(alloc, board, &subtree, is_asked)?;
     Ok(Known {
@@ -110,7 +111,7 @@ fn known_of_shift(
     ensures alike { IfOk result (λ k. IsAlike k.first (Shift id start)) }
 {
     let s = board.state();
-    let subtree = s.plan.subtree(alloc, id)?;
+    let subtree = subtree(alloc, s, id)?;
     let steady = left_by_shift(board, standing, id, &subtree);
     let asking = shifted_if(alloc, board, id, &subtree, is_asked)?;
     Ok(Known {

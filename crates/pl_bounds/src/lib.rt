@@ -21,6 +21,7 @@ mod sorting;
 mod standing;
 mod steady;
 mod stretch;
+mod subtrees;
 mod tally;
 mod ties;
 mod tying;
