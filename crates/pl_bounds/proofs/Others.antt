@@ -1,24 +1,23 @@
 -- A move of a subtree leaves the open goals, and what is wrong with other activities.
 use Rattle.std.proofs.Common.{◌≡◌, ℕ, ◌≤◌, eqb, Bool, true, false, List, [], ◌∷◌, ◌++◌, filter, length, Option, Some, None, refl, sym, ap, ◌∙◌, inl, inr}
-use Rattle.std.specs.Prelude.{◌||◌, ◌&&◌, ◌⊎◌, not, nat_le, is_some}
-use Rattle.std.specs.List.{flat_map, filter_map}
-use Rattle.std.proofs.lemmas.Bool.{and_parts, eq-eqb, false_from_ne_true, not-true, or_from, or_left, or_right}
+use Rattle.std.specs.Prelude.{◌||◌, ◌&&◌, ◌⊎◌, Contains, not, nat_le}
+use Rattle.std.specs.List.{flat_map, filter_map, list_any}
+use Rattle.std.proofs.lemmas.Bool.{and_parts, eq-eqb, eqb-true, false_from_ne_true, not-true, or_from, or_left, or_right}
+use Rattle.std.proofs.lemmas.Cmp.{nat_eq_equiv}
+use Rattle.std.proofs.lemmas.Map.Views.{Contains-from_any, list_any-from_Contains}
 use Rattle.pl_lists.proofs.Elements.{any_agree}
-use Rattle.pl_lists.proofs.Tests.{and_first}
 use Rattle.pl_conflict.specs.declared.conflict.Conflict.{Conflict}
 use Rattle.pl_conflict.specs.Order.{has}
 use Rattle.pl_moves.specs.Changes.{IsOfActivities, gone_by, placed_by}
 use Rattle.pl_moves.specs.Runs.{CanBeMade}
-use Rattle.pl_moves.proofs.Subtrees.{among_subtree, goes_if}
 use Rattle.pl_plan.specs.declared.activity.Activity.{Activity}
 use Rattle.pl_plan.specs.declared.repair.RepairMove.{RepairMove}
 use Rattle.pl_plan.specs.declared.repair.RepairMove.TheVariants.{Delete, Shift}
-use Rattle.pl_plan.specs.Activities.{activity_of}
+use Rattle.pl_plan.specs.Activities.{IsLive}
 use Rattle.pl_plan.specs.Serving.{is_served, served_in}
-use Rattle.pl_plan.specs.Trees.{Descends, child, children_of, descends, parent_of, subtree_of}
-use Rattle.pl_plan.proofs.RisingIds as rising
+use Rattle.pl_plan.specs.Trees.{Descends, child, itself, children_of, parent_of, subtree_of}
+use Rattle.pl_plan.proofs.Members.{subtree_members}
 use Rattle.pl_plan.proofs.Subtrees as subtrees
-use Rattle.pl_plan.proofs.TreeLaws.{descends_complete, descends_sound}
 use Rattle.pl_semantics.specs.declared.plan_state.PlanState.{PlanState}
 use Rattle.pl_semantics.specs.PlanStates.{among, floor_of, found, goal_at, is_open, of_found}
 use Rattle.pl_semantics.specs.Goals.{off_at, off_of, open_at, open_goal, open_of}
@@ -39,10 +38,12 @@ use Rattle.pl_bounds.proofs.Differing.{has_passing}
 use Rattle.pl_bounds.proofs.Following.{plain_is}
 use Rattle.pl_bounds.proofs.Made.{follows, stays, whole_then}
 use Rattle.pl_bounds.proofs.Opens.{open_not_served, open_stands, untouched}
-use Rattle.pl_bounds.proofs.Under.{turned}
 use Rattle.pl_bounds.proofs.Unmoved.{steady}
 
 -- ---- numbers among others
+
+flipped : (n : ℕ) (ids : List ℕ) → list_any (eqb n) ids ≡ among n ids
+flipped n ids = any_agree (eqb n) (λ i. eqb i n) (λ i. nat_eq_equiv.symm n i) ids
 
 first_among : (i : ℕ) (ids : List ℕ) → among i (i ∷ ids) ≡ true
 first_among i ids = or_left (eqb i i) (among i ids) (eq-eqb i i refl)
@@ -65,14 +66,19 @@ module _ (s : PlanState) (whole : IsWhole s) (top : ℕ) where
   abbrev sub : List ℕ
   sub = subtree_of top s.plan.activities
 
+  -- what descends is held
+  held : (n : ℕ) → IsLive n xs → Descends xs top n → among n sub ≡ true
+  held n live under = sym (flipped n sub) ∙ list_any-from_Contains {eq = eqb} nat_eq_equiv n sub ((subtree_members xs whole.fits.rooted top n).1 (live, under))
+
+  pub top_held : IsLive top xs → among top sub ≡ true
+  top_held live = held top live itself
+
   no_child : (n i : ℕ) → among n sub ≡ false → among i sub ≡ true → among n (children_of i xs) ≡ false
   no_child n i apart there = false_from_ne_true (among n (children_of i xs)) (λ h. absurd (
-      let turned_round : rising.among n (children_of i xs) ≡ true = any_agree (λ j. eqb n j) (λ j. eqb j n) (λ j. turned n j) (children_of i xs) ∙ h in
-      let up : parent_of n xs ≡ Some i = subtrees.child_parent xs whole.fits.rooted whole.rising i n turned_round in
-      let above : descends xs top i ≡ true = and_first (descends xs top i) (is_some (activity_of i xs)) (sym (among_subtree xs top i) ∙ there) in
-      let under : Descends xs top n = child n i up (descends_sound xs whole.fits.rooted top i above) in
-      let held : among n sub ≡ true = goes_if s whole top n (descends_complete xs whole.fits.rooted top n under) (subtrees.named_live xs n i up) in
-      let bad : true ≡ false = sym held ∙ apart in
+      let up : parent_of n xs ≡ Some i = subtrees.child_parent xs whole.fits.rooted whole.rising i n (flipped n (children_of i xs) ∙ h) in
+      let inside : Contains sub i = Contains-from_any {eq = eqb} eqb-true i sub (flipped i sub ∙ there) in
+      let under : Descends xs top n = child n i up ((subtree_members xs whole.fits.rooted top i).0 inside).1 in
+      let bad : true ≡ false = sym (held n (subtrees.named_live xs n i up) under) ∙ apart in
       cc))
 
   apart_from : (n : ℕ) → among n sub ≡ false → among n (touched_ids s sub []) ≡ false

@@ -13,13 +13,11 @@ use Rattle.pl_conflict.proofs.Sorting.{same, same_is}
 use Rattle.pl_moves.specs.Least.{least_known}
 use Rattle.pl_moves.specs.Runs.{CanBeMade}
 use Rattle.pl_moves.proofs.Made.{named_live}
-use Rattle.pl_moves.proofs.Subtrees.{goes_if}
 use Rattle.pl_update.specs.GoalsAndActivities.Near.{near}
 use Rattle.pl_update.specs.GoalsAndActivities.Touched.{touched_goals, touched_ids}
 use Rattle.pl_plan.specs.declared.repair.RepairMove.TheVariants.{Add, Delete, Shift}
 use Rattle.pl_plan.specs.Fitting.{alternatives_of}
-use Rattle.pl_plan.specs.Trees.{itself, subtree_of}
-use Rattle.pl_plan.proofs.TreeLaws.{descends_complete}
+use Rattle.pl_plan.specs.Trees.{subtree_of}
 use Rattle.pl_semantics.specs.declared.plan_state.PlanState.{PlanState}
 use Rattle.pl_semantics.specs.PlanStates.{among}
 use Rattle.pl_semantics.specs.Activities.{at_start, wrong_of}
@@ -37,7 +35,7 @@ use Rattle.pl_bounds.proofs.Differing.{has_passing}
 use Rattle.pl_bounds.proofs.Following.{all_but_wrong, is_kept, kept_stays, near_new, none_wrong_new}
 use Rattle.pl_bounds.proofs.Made.{follows, whole_then}
 use Rattle.pl_bounds.proofs.Reopened.{again, is_new, stands_again}
-use Rattle.pl_bounds.proofs.Others.{deletion_leaves, shift_leaves}
+use Rattle.pl_bounds.proofs.Others.{deletion_leaves, shift_leaves, top_held}
 use Rattle.pl_bounds.proofs.Shifted.{LandsOff, lands_off, off_beside_unmoved, shift_left}
 use Rattle.pl_bounds.proofs.Leaving.{AreLeft, left_few, standing_apart, with_one}
 use Rattle.pl_bounds.proofs.Opens.{wrong_stands}
@@ -181,7 +179,7 @@ module _ (s : PlanState) (whole : IsWhole s) (next : s.next_id ≤ 3999999000) (
   off_beside to can off = left_few (applied s (Shift id to)) (off.k ∷ others_of) (with_one (applied s (Shift id to)) others_of (others_left_by to can) off.k none off.stands (ap (λ c. is_plain_part (part_of c)) off.why))
     where
       own : among off.k.subject (subtree_of id s.plan.activities) ≡ true
-      own = ap (λ n. among n (subtree_of id s.plan.activities)) off.of ∙ goes_if s whole id id (descends_complete s.plan.activities whole.fits.rooted id id itself) (named_live s (Shift id to) can.proper)
+      own = ap (λ n. among n (subtree_of id s.plan.activities)) off.of ∙ top_held s whole id (named_live s (Shift id to) can.proper)
 
       none : has off.k others_of ≡ false
       none = false_from_ne_true (has off.k others_of) (λ h. absurd (

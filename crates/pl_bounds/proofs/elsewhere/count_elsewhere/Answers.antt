@@ -1,3 +1,4 @@
+use Rattle.std.proofs.Common.{◌+◌, ◌≤◌, cond, subst}
 use Rattle.std.specs.Prelude.{filter, length}
 use Rattle.std.specs.Map.Iter.{deref}
 use Rattle.std.proofs.lemmas.Map.Iter.{rest_more, rest_all}
@@ -8,7 +9,8 @@ use Rattle.pl_bounds.proofs.elsewhere.count_elsewhere.Goals as goal
 pub loop-conflict-preserved : goal.loop-conflict-preserved
 loop-conflict-preserved c =
     let next = rest_more deref c.loop-conflict.conflict-iterator c.next.new.self c.next.result c.in-Some.conflict c.in-Some.is c.next.ensures.steps in
-    one_more (is_elsewhere c.args.ids.now) c.in-Some.conflict.now c.loop-conflict.conflict-iterator c.next.new.self c.loop-conflict.count c.count_if-count.result (length (filter (is_elsewhere c.args.ids.now) c.args.conflicts.now)) next c.count_if-count.ensures c.loop-conflict.invariant
+    let more = subst (λ b. c.count_if-count.result ≤ c.loop-conflict.count + cond b 1 0) c.is_elsewhere.ensures c.count_if-count.ensures in
+    one_more (is_elsewhere c.args.ids.now) c.in-Some.conflict.now c.loop-conflict.conflict-iterator c.next.new.self c.loop-conflict.count c.count_if-count.result (length (filter (is_elsewhere c.args.ids.now) c.args.conflicts.now)) next more c.loop-conflict.invariant
 
 pub returns : goal.returns
 returns c =
