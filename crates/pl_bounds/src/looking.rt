@@ -103,7 +103,8 @@ impl Looking {
         Ok(())
     }
 
-    // Looks at some moments ahead, and keeps those at which it comes past a bar, and those at which it comes back.
+    // If there are no looks yet: looks at some moments ahead, and keeps those at which it comes past a bar, and those at which it comes
+    // back.
     fn look_at_crossings(
         &mut self,
         board: &Board,
@@ -116,6 +117,9 @@ impl Looking {
         requires looks { AreLooksAt board.now.state side line self.old.next self.old.looks.items }
         ensures { OnOk result (AreLooksAt board.now.state side line self.new.next self.new.looks.items) }
     {
+        if !self.looks.is_empty() {
+            return Ok(());
+        }
         let stretch = stretch_ahead(board, self.next);
         if !comes_past(board, side, line, bars.wide, stretch.sparser()) {
             return Ok(());
@@ -177,8 +181,6 @@ pub(crate) fn looks_at(
             looking.look_round(board, side, line, conflict)?;
         }
     }
-    if looking.looks.is_empty() {
-        looking.look_at_crossings(board, side, line, bars)?;
-    }
+    looking.look_at_crossings(board, side, line, bars)?;
     Ok(looking.looks)
 }

@@ -16,6 +16,25 @@ fn worsening(asked: &Asked) -> Option<(Side, i64)> {
     }
 }
 
+// With the limit of a level that a demand may pass.
+fn widen_by(
+    alloc: Global,
+    board: &Board,
+    demand: &Demand,
+    past: &mut Vec<Outside>,
+) -> Result<(), AllocError>
+    requires unspoiled { board.now.spoiled ≡ false }
+    requires of_plan { All (IsOutsideOf board.now.state) past.old.items }
+    requires different { AreDifferent past.old.items }
+    ensures of_plan { OnOk result (All (IsOutsideOf board.now.state) past.new.items) }
+    ensures different { OnOk result (AreDifferent past.new.items) }
+{
+    match worsening(&demand.asked) {
+        Some((side, amount)) => add(alloc, board, side, demand.line, amount, past),
+        None => Ok(()),
+    }
+}
+
 /// With the limits that some demands may pass.
 pub(crate) fn widen(
     alloc: Global,
@@ -30,9 +49,7 @@ pub(crate) fn widen(
     ensures different { OnOk result (AreDifferent past.new.items) }
 {
     for demand in demands {
-        if let Some((side, amount)) = worsening(&demand.asked) {
-            add(alloc, board, side, demand.line, amount, past)?;
-        }
+        widen_by(alloc, board, demand, past)?;
     }
     Ok(())
 }

@@ -2,6 +2,8 @@ use Rattle.std.proofs.Common.{List, sym, subst}
 use Rattle.std.specs.Prelude.{All}
 use Rattle.std.proofs.lemmas.List.Elements.{All-push}
 use Rattle.pl_bounds.specs.Known.{IsRunOf}
+use Rattle.pl_bounds.specs.Sides.{AreDifferent}
+use Rattle.pl_bounds.specs.declared.outside.Outside.{Outside}
 use Rattle.pl_bounds.specs.declared.runs.Run.{Run}
 use Rattle.pl_bounds.proofs.bounds.bound_of.Goals as goal
 
@@ -14,5 +16,11 @@ least_by-requires-clause-run c =
 pub returns-clause-runs : goal.returns-clause-runs
 returns-clause-runs c =
     let s = c.args.board.now.state in
-    let all = All-push (IsRunOf s) c.args.runs.now.items c.in_ok-run.run c.requires.runs c.in_ok-run.ensures.run in
+    let all = All-push (IsRunOf s) c.args.runs.now.items c.in_ok-run.run' c.requires.runs c.in_ok-run.ensures.run in
     subst (λ (rs : List Run). All (IsRunOf s) rs) (sym c.in_ok-push.ensures.items) all
+
+pub least_by-requires-clause-different : goal.least_by-requires-clause-different
+least_by-requires-clause-different c = subst (λ (os : List Outside). AreDifferent os) (sym c.as_slice-in-Some.ensures.value) c.requires.different
+
+pub least_by-bound-requires-clause-different : goal.least_by-bound-requires-clause-different
+least_by-bound-requires-clause-different c = subst (λ (os : List Outside). AreDifferent os) (sym c.as_slice-2.ensures.value) c.in_ok-run.ensures.different

@@ -6,8 +6,8 @@ use Rattle.pl_bounds.specs.Afterwards.{moved_by, pull}
 use Rattle.pl_bounds.proofs.Parted.{nothing, one_more}
 use Rattle.pl_bounds.proofs.sorting.add_if_on.Goals as goal
 
-pub returns-then-is_on : goal.returns-then-is_on
-returns-then-is_on c = λ o w t is. ap (λ (ds : List Demand). pull o t (moved_by w ds)) c.in_ok-push.ensures.items ∙ one_more o w t c.args.part.now.items c.args.demand.now
+pub returns-in_ok-push : goal.returns-in_ok-push
+returns-in_ok-push c = λ o w t is. ap (λ (ds : List Demand). pull o t (moved_by w ds)) c.in_ok-push.ensures.items ∙ one_more o w t c.args.part.now.items c.args.demand.now
 
 pub returns-else-is_on : goal.returns-else-is_on
 returns-else-is_on c = λ o w t is.
