@@ -190,16 +190,16 @@ module _ (s : PlanState) (whole : IsWhole s) (next : s.next_id ≤ 3999999000) (
           cc))
 
   -- and all but what is wrong with its subtree
-  others_left : (n : ℕ) → n ≤ count_of_elsewhere s (subtree_of id s.plan.activities) → IsLeftByShift s id n
-  others_left n few w window to can =
+  but_own_left : (n : ℕ) → n ≤ count_of_elsewhere s (subtree_of id s.plan.activities) → IsLeftByShift s id n
+  but_own_left n few w window to can =
       with_off n to can
       (let left = left_few (applied s (Shift id to)) others_of (others_left_by to can) in omega (arith, few, left))
       (λ off. let left = off_beside to can off in omega (arith, few, left))
       w window
 
   -- the greater of both
-  pub greater_left : (o : Standing) → IsStandingOf s o → (others : ℕ) → others ≤ count_of_elsewhere s (subtree_of id s.plan.activities) → IsLeftByShift s id (max o.unmoved others)
-  greater_left o of others most w window to can =
+  pub greater_left : (o : Standing) → IsStandingOf s o → (others : ℕ) → others ≤ count_of_elsewhere s (subtree_of id s.plan.activities) → (n : ℕ) → n ≤ max o.unmoved others → IsLeftByShift s id n
+  greater_left o of others most n few w window to can =
       let one = unmoved_left o of o.unmoved (omega arith) w window to can in
-      let other = others_left others most w window to can in
-      omega (arith, one, other)
+      let other = but_own_left others most w window to can in
+      omega (arith, few, one, other)

@@ -25,8 +25,8 @@ use std::alloc::{AllocError, Global};
 #[derive(Drop)]
 pub(crate) struct Known {
     pub(crate) first: RepairMove,
-    steady: u32,
-    window: Option<Window>,
+    pub(crate) steady: u32,
+    pub(crate) window: Option<Window>,
     pub(crate) alone: Option<Placed>,
     pub(crate) asking: Option<Asking>,
 }

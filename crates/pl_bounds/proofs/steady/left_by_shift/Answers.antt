@@ -1,11 +1,10 @@
-use Rattle.std.proofs.Common.{◌≡◌, ◌≤◌, List, ℕ, sym, subst, arith}
+use Rattle.std.proofs.Common.{◌≡◌, ◌≤◌, List, ℕ, subst, arith}
 use Rattle.std.specs.Prelude.{filter, length}
 use Rattle.pl_conflict.specs.declared.conflict.Conflict.{Conflict}
 use Rattle.pl_plan.specs.Trees.{subtree_of}
 use Rattle.pl_semantics.specs.declared.plan_state.PlanState.{PlanState}
 use Rattle.pl_semantics.specs.Whole.{IsWhole}
 use Rattle.pl_bounds.specs.Standing.{count_of_elsewhere, is_elsewhere}
-use Rattle.pl_bounds.specs.Windows.{IsLeftByShift}
 use Rattle.pl_bounds.proofs.Staying.{greater_left, unmoved_left}
 use Rattle.pl_bounds.proofs.steady.left_by_shift.Goals as goal
 
@@ -23,4 +22,4 @@ returns c =
     let n = c.count_elsewhere-others.result in
     let of_board = subst (λ (ks : List Conflict). n ≤ length (filter (is_elsewhere c.args.subtree.now) ks)) (c.conflicts.ensures c.requires.unspoiled) c.count_elsewhere-others.ensures in
     let others : n ≤ count_of_elsewhere s (subtree_of id s.plan.activities) = subst (λ (ids : List ℕ). n ≤ count_of_elsewhere s ids) c.requires.subtree of_board in
-    subst (λ k. IsLeftByShift s id k) (sym c.max.ensures) (greater_left s whole c.requires.next id c.args.standing.now c.requires.standing n others)
+    greater_left s whole c.requires.next id c.args.standing.now c.requires.standing n others c.max.result (omega arith)
