@@ -186,7 +186,8 @@ module _ (s : PlanState) (whole : IsWhole s) (next : s.next_id ≤ 3999999000) (
           let passes = (has_passing (is_elsewhere (subtree_of id s.plan.activities)) (conflicts_of s) off.k h).1 in
           let either = and_second (is_plain off.k) (is_open_one off.k || not (among off.k.subject (subtree_of id s.plan.activities))) passes in
           let closed : is_open_one off.k ≡ false = ap (λ c. eqb (code_number c) 0) off.why in
-          let bad : false ≡ true = sym (rw (closed, own) refl) ∙ either in
+          let neither : (is_open_one off.k || not (among off.k.subject (subtree_of id s.plan.activities))) ≡ false = ap (λ b. b || not (among off.k.subject (subtree_of id s.plan.activities))) closed ∙ ap (λ b. not b) own in
+          let bad : false ≡ true = sym neither ∙ either in
           cc))
 
   -- and all but what is wrong with its subtree
