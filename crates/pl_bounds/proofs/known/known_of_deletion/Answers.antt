@@ -13,7 +13,7 @@ subtree-requires-clause-live c =
     subst (λ (t : PlanState). IsLive id t.plan.activities) (sym c.state-s.ensures.value) (named_live c.args.board.now.state (Delete id) c.requires.allowed.proper)
 
 pub left_by_deletion-requires-clause-subtree : goal.left_by_deletion-requires-clause-subtree
-left_by_deletion-requires-clause-subtree c = c.deref-1.ensures.value ∙ (c.in_ok-subtree.ensures ∙ ap (λ (t : PlanState). subtree_of c.args.id t.plan.activities) c.state-s.ensures.value)
+left_by_deletion-requires-clause-subtree c = c.deref.ensures.value ∙ (c.in_ok-subtree.ensures ∙ ap (λ (t : PlanState). subtree_of c.args.id t.plan.activities) c.state-s.ensures.value)
 
 pub returns-clause-known : goal.returns-clause-known
 returns-clause-known c =

@@ -14,8 +14,8 @@ subtree-requires-clause-live c =
     let id = c.args.id in
     subst (λ (t : PlanState). IsLive id t.plan.activities) (sym c.state-s.ensures.value) (named_live c.args.board.now.state (Shift id c.args.start) c.requires.allowed.proper)
 
-pub left_by_shift-requires-clause-subtree : goal.left_by_shift-requires-clause-subtree
-left_by_shift-requires-clause-subtree c = c.deref-1.ensures.value ∙ (c.in_ok-subtree.ensures ∙ ap (λ (t : PlanState). subtree_of c.args.id t.plan.activities) c.state-s.ensures.value)
+pub left_by_shift-steady-requires-clause-subtree : goal.left_by_shift-steady-requires-clause-subtree
+left_by_shift-steady-requires-clause-subtree c = c.deref.ensures.value ∙ (c.in_ok-subtree.ensures ∙ ap (λ (t : PlanState). subtree_of c.args.id t.plan.activities) c.state-s.ensures.value)
 
 pub shifted_if-requires-clause-live : goal.shifted_if-requires-clause-live
 shifted_if-requires-clause-live c = named_live c.args.board.now.state (Shift c.args.id c.args.start) c.requires.allowed.proper
