@@ -47,7 +47,6 @@ fn are_undemanding(state: &PlanState, slots: &[Slot]) -> bool {
 // ---- the first move
 
 // The first start that is tried for a goal, where one is.
-#[tactic(auto, using(crate::proofs::Promise::goal_begins))]
 fn first_start(state: &PlanState, goal: &Goal) -> Option<u32>
     requires { IsWhole state.now }
     ensures { IfSome result (λ start. BeginsWith (Add goal.now.kind start (Some goal.now.number)) (for_goal state.now goal.now)) }
@@ -104,7 +103,6 @@ fn first_for_goal(state: &PlanState, number: u32) -> Option<RepairMove>
 }
 
 // The first alternative of an activity, where its kind has some.
-#[tactic(auto, using(crate::proofs::Promise::alternative_foremost))]
 fn first_alternative(state: &PlanState, a: &Activity) -> Option<RepairMove>
     ensures foremost { IfSome result (λ m. IsForemost state.now m (for_undetailed state.now a.now)) }
     ensures changes { IfSome result (λ m. changes_nothing state.now m ≡ false) }
