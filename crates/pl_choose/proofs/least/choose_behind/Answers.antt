@@ -10,11 +10,4 @@ pub settle-requires-clause-legal : goal.settle-requires-clause-legal
 settle-requires-clause-legal c =
     let s = c.args.board.now.state in
     let P : Option Proposal → Type 0 = λ p. IsProposal s p in
-    subst P (sym (c.requires.best c.then.is)) (least_is_proposal s)
-
-pub returns-then-clause-picks : goal.returns-then-clause-picks
-returns-then-clause-picks c =
-    let is = c.requires.best c.then.is in
-    let P : Option Proposal → Type 0 = λ p. p ≡ Some c.args.proposal in
-    let Q : Option Proposal → Type 0 = λ p. p ≡ least_pick c.args.board.now.state in
-    IfOk-weaker c.settle.result P Q (λ p e. e ∙ is) c.settle.ensures.told
+    subst P (sym (c.requires.best c.if-is_best.true)) (least_is_proposal s)
