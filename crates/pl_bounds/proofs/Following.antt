@@ -26,7 +26,7 @@ use Rattle.pl_semantics.specs.Whole.{IsWhole, IsIdBelow}
 use Rattle.pl_bounds.specs.Plain.{is_plain, is_plain_part, count_of_plain}
 use Rattle.pl_bounds.proofs.Counted.{held_are_few}
 use Rattle.pl_bounds.proofs.Differing.{has_passing}
-use Rattle.pl_bounds.proofs.Leaving.{left_are_few, one_at_most, split, standing_apart}
+use Rattle.pl_bounds.proofs.Leaving.{one_at_most, split, standing_apart}
 use Rattle.pl_bounds.proofs.Unmoved.{steady}
 
 -- ---- lists
@@ -80,16 +80,6 @@ module _ (s t : PlanState) (whole : IsWhole s) (whole_too : IsWhole t) (numbers 
       let both = has_passing (is_kept (near s numbers ids)) (conflicts_of s) q e in
       let two = and_parts (is_plain q) (not (has q (near s numbers ids))) both.1 in
       (steady s t numbers ids whole whole_too follows q (plain_is q two.0) both.0 (not-true (has q (near s numbers ids)) two.1), two.0)
-
-  pub kept_are_left : length (filter (is_kept (near s numbers ids)) (conflicts_of s)) ≤ count_of_plain t
-  kept_are_left = left_are_few t (filter (is_kept (near s numbers ids)) (conflicts_of s)) (standing_apart s (is_kept (near s numbers ids))) kept_stays
-
-  -- what was wrong near is all that goes
-  pub most_stay : count_of_plain s ≤ count_of_plain t + length (near s numbers ids)
-  most_stay =
-      let all = all_but_wrong s (near s numbers ids) in
-      let left = kept_are_left in
-      omega (arith, all, left)
 
 -- ---- a new root
 

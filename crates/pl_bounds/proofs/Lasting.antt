@@ -3,11 +3,10 @@ use Rattle.std.proofs.Common.{◌≡◌, ℕ, ◌+◌, ◌<◌, List, length, ge
 use Rattle.std.specs.Prelude.{SomeIff, IfSome}
 use Rattle.std.proofs.lemmas.Int.{ints}
 use Rattle.pl_semantics.specs.declared.demand.Demand.{Demand}
-use Rattle.pl_bounds.specs.Afterwards.{moved_by, pull, pull_of, value_with}
+use Rattle.pl_bounds.specs.Afterwards.{pull, pull_of, value_with}
 use Rattle.pl_bounds.specs.Changed.{added_by}
 use Rattle.pl_bounds.specs.Moved.{demand_moved}
 use Rattle.pl_bounds.specs.declared.outside.Outside.{Outside}
-use Rattle.pl_bounds.specs.declared.pulls.Way.{Way}
 use Rattle.pl_bounds.proofs.Pulled.{all_still, pull_next}
 
 -- if the first of the rest makes the same at both moments, and those behind it do

@@ -1,6 +1,6 @@
 -- How many conflicts of goals and activities are left, by some that are.
-use Rattle.std.proofs.Common.{◌≡◌, ℕ, ◌+◌, ◌≤◌, Bool, true, false, List, [], ◌∷◌, filter, length, Option, Some, None, refl, sym, ap, ◌∙◌, arith}
-use Rattle.std.specs.Prelude.{◌&&◌, not, nat_le}
+use Rattle.std.proofs.Common.{◌≡◌, ℕ, ◌+◌, ◌≤◌, Bool, true, false, List, [], ◌∷◌, filter, length, Option, Some, None, refl, sym, ap, ◌∙◌, subst, arith}
+use Rattle.std.specs.Prelude.{◌||◌, ◌&&◌, not, nat_le}
 use Rattle.std.specs.List.Sorted.{IsStrictlySortedBy}
 use Rattle.std.proofs.lemmas.List.Kept.{IsStrictlySortedBy-filter}
 use Rattle.pl_conflict.specs.declared.conflict.Conflict.{Conflict}
@@ -46,6 +46,20 @@ pub left_are_few : (t : PlanState) (ks : List Conflict) → AreApart ks → ((q 
 left_are_few t ks apart each =
     held_are_few ks (filter is_plain (conflicts_of t)) apart (IsStrictlySortedBy-filter conflict_cmp is_plain (conflicts_of t) (ordered t))
     (λ q e. let both = each q e in passing is_plain (conflicts_of t) q both.0 both.1)
+
+pub record AreLeft (t : PlanState) (ks : List Conflict) : Type 0 where
+  pub apart : AreApart ks
+  pub each : (q : Conflict) → has q ks ≡ true → (has q (conflicts_of t) ≡ true) × (is_plain q ≡ true)
+
+pub left_few : (t : PlanState) (ks : List Conflict) → AreLeft t ks → length ks ≤ count_of_plain t
+left_few t ks are = left_are_few t ks are.apart are.each
+
+pub with_one : (t : PlanState) (ks : List Conflict) → AreLeft t ks → (k : Conflict) → has k ks ≡ false → has k (conflicts_of t) ≡ true → is_plain k ≡ true → AreLeft t (k ∷ ks)
+with_one t ks are k none stands plain = record { apart = (none, are.apart); each = λ q h. by q (same q k) refl h }
+  where
+    by : (q : Conflict) (b : Bool) → same q k ≡ b → (b || has q ks) ≡ true → (has q (conflicts_of t) ≡ true) × (is_plain q ≡ true)
+    by q true e there = subst (λ (z : Conflict). (has z (conflicts_of t) ≡ true) × (is_plain z ≡ true)) (sym (same_is q k e)) (stands, plain)
+    by q false e there = are.each q there
 
 -- ---- parts
 

@@ -33,6 +33,7 @@ pub mod Assigned
 pub mod Reopened
 pub mod Lacking
 pub mod Around
+pub mod Others
 pub mod Staying
 pub mod Knowing
 pub mod Parted

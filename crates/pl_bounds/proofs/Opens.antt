@@ -5,7 +5,7 @@ use Rattle.std.specs.List.{flat_map, filter_map}
 use Rattle.std.specs.Option.{option_to_list}
 use Rattle.std.proofs.lemmas.List.Folds.{list_any-append}
 use Rattle.std.proofs.Math.Bool.{or-false, or-true}
-use Rattle.std.proofs.lemmas.Bool.{false_from_ne_true, or_from, or_left}
+use Rattle.std.proofs.lemmas.Bool.{false_from_ne_true, or_from, or_left, or_right}
 use Rattle.pl_conflict.specs.declared.conflict.Conflict.{Conflict}
 use Rattle.pl_conflict.specs.declared.conflict.Code.{Code}
 use Rattle.pl_conflict.specs.declared.conflict.Code.TheVariants as code
@@ -109,6 +109,12 @@ pub open_is_left : (t : PlanState) → IsWhole t → (q : Conflict) → has q (o
 open_is_left t whole q here =
     members t q ∙ or_left (has q (goal_conflicts t)) (has q (activity_conflicts t) || (has q (link_conflicts t) || has q (timeline_conflicts t)))
     (goals_by_subject t whole.distinct whole.rising q ∙ or_left (has q (open_of t q.subject)) (has q (off_of t q.subject)) here)
+
+-- and that of a root off its goal
+pub off_is_left : (t : PlanState) → IsWhole t → (q : Conflict) → has q (off_of t q.subject) ≡ true → has q (conflicts_of t) ≡ true
+off_is_left t whole q here =
+    members t q ∙ or_left (has q (goal_conflicts t)) (has q (activity_conflicts t) || (has q (link_conflicts t) || has q (timeline_conflicts t)))
+    (goals_by_subject t whole.distinct whole.rising q ∙ or_right (has q (open_of t q.subject)) (has q (off_of t q.subject)) here)
 
 -- and so does one of an activity
 pub wrong_is_left : (t : PlanState) → IsWhole t → (q : Conflict) → has q (wrong_of t q.subject) ≡ true → has q (conflicts_of t) ≡ true

@@ -1,6 +1,6 @@
 -- A shift leaves the open goals, and what is wrong with activities but for their starts.
-use Rattle.std.proofs.Common.{◌≡◌, ℕ, ◌≤◌, eqb, Bool, true, false, cond, List, [], ◌∷◌, map, filter, length, Option, Some, None, refl, sym, ap, ◌∙◌, subst, inl, inr, arith}
-use Rattle.std.specs.Prelude.{◌||◌, ◌⊎◌, All, if◌then◌else◌}
+use Rattle.std.proofs.Common.{◌≡◌, ℕ, suc, ◌+◌, ◌-◌, ◌≤◌, eqb, Bool, true, false, cond, List, [], ◌∷◌, map, filter, length, Option, Some, None, refl, sym, ap, ◌∙◌, subst, inl, inr, arith}
+use Rattle.std.specs.Prelude.{◌||◌, ◌⊎◌, All, if◌then◌else◌, nat_lt, option_and_then}
 use Rattle.std.specs.List.{filter_map}
 use Rattle.std.specs.Option.{option_map}
 use Rattle.std.proofs.lemmas.Bool.{le-ltb, false_from_ne_true}
@@ -13,6 +13,7 @@ use Rattle.pl_conflict.specs.declared.conflict.Code.TheVariants as code
 use Rattle.pl_conflict.specs.Codes.{code_number}
 use Rattle.pl_conflict.specs.Order.{has}
 use Rattle.pl_conflict.proofs.Sorting.{same, same_is, same_itself}
+use Rattle.pl_facts.specs.declared.goal.Goal.{Goal}
 use Rattle.pl_moves.specs.Changes.{placed_by}
 use Rattle.pl_moves.specs.Runs.{CanBeMade}
 use Rattle.pl_moves.proofs.Made.{named_live}
@@ -22,11 +23,13 @@ use Rattle.pl_plan.specs.Activities.{IsLive, activity_of}
 use Rattle.pl_plan.specs.Fitting.{FitsAlone}
 use Rattle.pl_plan.specs.Moves.{KeepsTree}
 use Rattle.pl_plan.specs.Serving.{served_in, is_served}
-use Rattle.pl_plan.specs.Trees.{descends}
+use Rattle.pl_plan.specs.Trees.{descends, itself}
+use Rattle.pl_plan.proofs.TreeLaws.{descends_complete}
 use Rattle.pl_plan.proofs.Climbs.{all_at}
 use Rattle.pl_plan.proofs.Kept.{found-changed, found-kept}
 use Rattle.pl_semantics.specs.declared.plan_state.PlanState.{PlanState}
-use Rattle.pl_semantics.specs.PlanStates.{among, floor_of, found, is_committed, of_found}
+use Rattle.pl_semantics.specs.PlanStates.{among, floor_of, found, goal_at, if_planned, is_committed, of_found, served_by, when}
+use Rattle.pl_semantics.specs.Goals.{off_at, off_from, off_goal, off_of}
 use Rattle.pl_semantics.specs.Activities.{wrong_at, wrong_of}
 use Rattle.pl_semantics.specs.Conflicts.{conflicts_of}
 use Rattle.pl_semantics.specs.Moves.{applied, is_under, moved, with_activities}
@@ -36,10 +39,10 @@ use Rattle.pl_semantics.proofs.Refusing.{may}
 use Rattle.pl_bounds.specs.Counts.{AreApart}
 use Rattle.pl_update.specs.Evaluations.Shifted.{still}
 use Rattle.pl_bounds.specs.Plain.{is_plain, is_plain_part, count_of_plain}
-use Rattle.pl_bounds.specs.Standing.{is_unmoved, is_unmoved_one, count_of_unmoved}
+use Rattle.pl_bounds.specs.Standing.{is_unmoved, is_unmoved_one, count_of_unmoved, IsServedBy}
 use Rattle.pl_bounds.proofs.Differing.{has_passing}
-use Rattle.pl_bounds.proofs.Leaving.{left_are_few, standing_apart}
-use Rattle.pl_bounds.proofs.Opens.{moved_served, open_not_served, open_stands, untouched, wrong_stands, wrong_is_left}
+use Rattle.pl_bounds.proofs.Leaving.{AreLeft, left_few, standing_apart, with_one}
+use Rattle.pl_bounds.proofs.Opens.{moved_served, off_is_left, open_not_served, open_stands, untouched, wrong_stands, wrong_is_left}
 use Rattle.pl_bounds.proofs.Restarted.{at, fixed_among, fixed_at, fixed_from, fixed_stays, found_then, is_fixed}
 use Rattle.pl_bounds.proofs.Made.{stays, whole_then}
 
@@ -112,6 +115,13 @@ own s whole q fixed there = by (found s q.subject) refl (wrong_stands s whole q 
     by None e h = absurd (let bad : false ≡ true = h in cc)
     by (Some a) e h = let both = fixed_among s a q fixed h in record { a = a; here = e; planned = both.0; among = both.1 }
 
+-- a conflict of the activity of this id, which a shift of it leaves, because its goal does not allow its start then
+pub record LandsOff (s : PlanState) (id to : ℕ) : Type 0 where
+  pub k : Conflict
+  pub stands : has k (conflicts_of (applied s (Shift id to))) ≡ true
+  pub why : k.code ≡ code.OffGoal
+  pub of : k.subject ≡ id
+
 -- ---- activities moved along
 
 abbrev start_in : Option Activity → ℕ
@@ -148,19 +158,23 @@ module _ (s : PlanState) (whole : IsWhole s) (next : s.next_id ≤ 3999999000) (
   above : All (λ (b : Activity). floor_of s ≤ b.start) (map (moved top.start to) (filter (is_under s top.id) xs))
   above = rw here at (may s (Shift id to) can.allowed).above
 
-  -- what is not committed is not committed then
+  -- what it moves is not committed then
+  moved_free : (q : ℕ) (a : Activity) → found s q ≡ Some a → is_under s top.id a ≡ true → is_committed then_ (moved top.start to a) ≡ false
+  moved_free q a at_q f =
+      let is_id : a.id ≡ q = (all_at (FitsAlone s.model) xs q a whole.fits.each at_q).1 in
+      let under : descends xs top.id q ≡ true = ap (λ n. descends xs top.id n) (sym is_id) ∙ f in
+      let among : activity_of q (filter (is_under s top.id) xs) ≡ Some a = found-kept (descends xs top.id) xs q ∙ rw under at_q in
+      let along : activity_of q (map (moved top.start to) (filter (is_under s top.id) xs)) ≡ Some (moved top.start to a) = found-changed (moved top.start to) moves_tree (filter (is_under s top.id) xs) q ∙ ap (option_map (moved top.start to)) among in
+      let low : floor_of s ≤ (moved top.start to a).start = (all_at (λ (b : Activity). floor_of s ≤ b.start) (map (moved top.start to) (filter (is_under s top.id) xs)) q (moved top.start to a) above along).0 in
+      le-ltb (moved top.start to a).start s.committed (omega (arith, low))
+
+  -- and what is not committed is not committed then
   still_free : (q : ℕ) (a : Activity) → found s q ≡ Some a → is_committed s a ≡ false → is_committed then_ (e a) ≡ false
   still_free q a at_q free = by (is_under s top.id a) refl
     where
       by : (b : Bool) → is_under s top.id a ≡ b → is_committed then_ (cond b (moved top.start to a) a) ≡ false
       by false f = free
-      by true f =
-          let is_id : a.id ≡ q = (all_at (FitsAlone s.model) xs q a whole.fits.each at_q).1 in
-          let under : descends xs top.id q ≡ true = ap (λ n. descends xs top.id n) (sym is_id) ∙ f in
-          let among : activity_of q (filter (is_under s top.id) xs) ≡ Some a = found-kept (descends xs top.id) xs q ∙ rw under at_q in
-          let along : activity_of q (map (moved top.start to) (filter (is_under s top.id) xs)) ≡ Some (moved top.start to a) = found-changed (moved top.start to) moves_tree (filter (is_under s top.id) xs) q ∙ ap (option_map (moved top.start to)) among in
-          let low : floor_of s ≤ (moved top.start to a).start = (all_at (λ (b : Activity). floor_of s ≤ b.start) (map (moved top.start to) (filter (is_under s top.id) xs)) q (moved top.start to a) above along).0 in
-          le-ltb (moved top.start to a).start s.committed (omega (arith, low))
+      by true f = moved_free q a at_q f
 
   -- ---- conflicts, moved along
 
@@ -244,24 +258,88 @@ module _ (s : PlanState) (whole : IsWhole s) (next : s.next_id ≤ 3999999000) (
       by (inr x) (inl y) = absurd (let bad : true ≡ false = sym y ∙ sym zeros ∙ x.1 in cc)
       by (inr x) (inr y) = fixed_one q r x.0 y.0 both.0 both_too.0 _ _ (sym (fixed_along q x.1) ∙ f ∙ fixed_along r y.1)
 
-  ones_left : length ones ≤ count_of_plain then_
-  ones_left =
-      let few : length (map along ones) ≤ count_of_plain then_ =
-      left_are_few then_ (map along ones) (apart_map along ones (standing_apart s is_unmoved_one) one_of)
-      (λ q h.
-      let from : IsFrom along ones q = from_map along ones q h in
-      subst (λ (k : Conflict). (has k (conflicts_of then_) ≡ true) × (is_plain k ≡ true)) (sym from.is) (stands_then from.k from.there)) in
-      omega (arith, few, length-map ones along)
+  ones_are_left : AreLeft then_ (map along ones)
+  ones_are_left = record {
+    apart = apart_map along ones (standing_apart s is_unmoved_one) one_of;
+    each = λ q h.
+        let from : IsFrom along ones q = from_map along ones q h in
+        subst (λ (k : Conflict). (has k (conflicts_of then_) ≡ true) × (is_plain k ≡ true)) (sym from.is) (stands_then from.k from.there);
+  }
 
   left_then : count_of_unmoved s ≤ count_of_plain (applied s (Shift id to))
-  left_then = subst (λ (t : PlanState). length ones ≤ count_of_plain t) (sym is_then) ones_left
+  left_then = subst (λ (t : PlanState). length ones ≤ count_of_plain t) (sym is_then) (let few = left_few then_ (map along ones) ones_are_left in omega (arith, few, length-map ones along))
 
-pub shift_left : (s : PlanState) → IsWhole s → s.next_id ≤ 3999999000 → (id to : ℕ) → CanBeMade s (Shift id to) → count_of_unmoved s ≤ count_of_plain (applied s (Shift id to))
-shift_left s whole next id to can = by (found s id) refl
+  -- ---- a root that starts where its goal does not allow it
+
+  abbrev landed : Activity
+  landed = moved top.start to top
+
+  under_itself : is_under s top.id top ≡ true
+  under_itself = descends_complete xs whole.fits.rooted top.id top.id itself
+
+  found_landed : found then_ id ≡ Some landed
+  found_landed = found_then s whole e keeps whole_too id ∙ (ap (option_map e) here ∙ ap (λ b. Some (cond b landed top)) under_itself)
+
+  lands_at : landed.start ≡ to
+  lands_at = let at : (top.start + to) - top.start ≡ to = omega arith in at
+
+  off_stands : (g : Goal) → IsServedBy s id g → (nat_lt to g.earliest || nat_lt g.latest to) ≡ true → has (off_goal landed g) (conflicts_of then_) ≡ true
+  unfolding off_at
+  off_stands g of out =
+      let k : Conflict = off_goal landed g in
+      let same_one : of.a ≡ top = same_Some of.a top (sym of.here ∙ here) in
+      let serves : served_in landed ≡ Some g.number = ap served_in (sym same_one) ∙ of.serves in
+      let subject : top.id ≡ id = (all_at (FitsAlone s.model) xs id top whole.fits.each here).1 in
+      let own : has k (off_of then_ id) ≡ true =
+      ap (λ (o : Option Activity). has k (of_found (off_at then_) o)) found_landed
+      ∙ (ap (λ b. has k (if_planned b (of_found (off_from landed) (served_by then_ landed)))) (moved_free id top here under_itself)
+      ∙ (ap (λ o. has k (of_found (off_from landed) (option_and_then (goal_at then_) o))) serves
+      ∙ (ap (λ o. has k (of_found (off_from landed) o)) of.goal
+      ∙ (ap (λ n. has k (when (nat_lt n g.earliest || nat_lt g.latest n) k)) lands_at
+      ∙ (ap (λ b. has k (when b k)) out ∙ ap (λ b. b || false) (same_itself k)))))) in
+      off_is_left then_ whole_too k (ap (λ n. has k (off_of then_ n)) subject ∙ own)
+
+  off_then : (g : Goal) → IsServedBy s id g → (nat_lt to g.earliest || nat_lt g.latest to) ≡ true → LandsOff s id to
+  off_then g of out = record {
+    k = off_goal landed g;
+    stands = subst (λ (t : PlanState). has (off_goal landed g) (conflicts_of t) ≡ true) (sym is_then) (off_stands g of out);
+    why = refl;
+    of = (all_at (FitsAlone s.model) xs id top whole.fits.each here).1;
+  }
+
+  -- it is none of those that are moved along
+  one_more_then : LandsOff s id to → suc (count_of_unmoved s) ≤ count_of_plain (applied s (Shift id to))
+  one_more_then off =
+      let stands : has off.k (conflicts_of then_) ≡ true = subst (λ (t : PlanState). has off.k (conflicts_of t) ≡ true) is_then off.stands in
+      let more : AreLeft then_ (off.k ∷ map along ones) = with_one then_ (map along ones) ones_are_left off.k none stands (ap (λ c. is_plain_part (part_of c)) off.why) in
+      subst (λ (t : PlanState). suc (length ones) ≤ count_of_plain t) (sym is_then) (let few = left_few then_ (off.k ∷ map along ones) more in omega (arith, few, length-map ones along))
+    where
+      none : has off.k (map along ones) ≡ false
+      none = false_from_ne_true (has off.k (map along ones)) (λ h. absurd (
+          let from : IsFrom along ones off.k = from_map along ones off.k h in
+          let coded : code.OffGoal ≡ from.k.code = sym off.why ∙ (ap (λ (k : Conflict). k.code) from.is ∙ along_code from.k) in
+          let unmoved : is_unmoved from.k.code ≡ true = (has_passing is_unmoved_one (conflicts_of s) from.k from.there).1 in
+          let bad : false ≡ true = ap is_unmoved coded ∙ unmoved in
+          cc))
+
+-- ---- any shift that can be made
+
+of_top : (s : PlanState) (id to : ℕ) (R : Type 0) → CanBeMade s (Shift id to) → ((top : Activity) → found s id ≡ Some top → R) → R
+of_top s id to R can each = by (found s id) refl
   where
     live : IsLive id s.plan.activities
     live = named_live s (Shift id to) can.proper
 
-    by : (o : Option Activity) → found s id ≡ o → count_of_unmoved s ≤ count_of_plain (applied s (Shift id to))
+    by : (o : Option Activity) → found s id ≡ o → R
     by None e = absurd (let bad : false ≡ true = rw e at live in cc)
-    by (Some top) e = left_then s whole next id to can top e
+    by (Some top) e = each top e
+
+module _ (s : PlanState) (whole : IsWhole s) (next : s.next_id ≤ 3999999000) (id to : ℕ) (can : CanBeMade s (Shift id to)) where
+  pub shift_left : count_of_unmoved s ≤ count_of_plain (applied s (Shift id to))
+  shift_left = of_top s id to (count_of_unmoved s ≤ count_of_plain (applied s (Shift id to))) can (left_then s whole next id to can)
+
+  pub lands_off : (g : Goal) → IsServedBy s id g → (nat_lt to g.earliest || nat_lt g.latest to) ≡ true → LandsOff s id to
+  lands_off g of out = of_top s id to (LandsOff s id to) can (λ top here. off_then s whole next id to can top here g of out)
+
+  pub off_beside_unmoved : LandsOff s id to → suc (count_of_unmoved s) ≤ count_of_plain (applied s (Shift id to))
+  off_beside_unmoved off = of_top s id to (suc (count_of_unmoved s) ≤ count_of_plain (applied s (Shift id to))) can (λ top here. one_more_then s whole next id to can top here off)

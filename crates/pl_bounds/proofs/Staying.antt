@@ -1,22 +1,25 @@
 -- How many conflicts of goals and activities a move leaves at least.
-use Rattle.std.proofs.Common.{◌≡◌, ℕ, suc, ◌+◌, ◌-◌, ◌≤◌, eqb, Bool, true, false, cond, List, [], ◌∷◌, filter, length, Option, refl, sym, ap, ◌∙◌, subst, arith}
-use Rattle.std.specs.Prelude.{◌||◌, max, slice_get}
+use Rattle.std.proofs.Common.{◌≡◌, ℕ, suc, ◌+◌, ◌-◌, ◌≤◌, eqb, Bool, true, false, cond, List, [], ◌∷◌, filter, length, Option, Some, None, refl, sym, ap, ◌∙◌, subst, arith}
+use Rattle.std.specs.Prelude.{◌||◌, IfSome, max, not, slice_get}
 use Rattle.std.specs.Option.{option_to_list}
 use Rattle.std.proofs.lemmas.Bool.{false_from_ne_true}
 use Rattle.pl_conflict.specs.declared.conflict.Conflict.{Conflict}
 use Rattle.pl_conflict.specs.declared.conflict.Code.TheVariants.{Undetailed}
 use Rattle.pl_conflict.specs.declared.conflict.Code.TheVariants as code
+use Rattle.pl_conflict.specs.Codes.{code_number}
 use Rattle.pl_conflict.specs.Order.{has}
+use Rattle.pl_lists.proofs.Tests.{and_second}
 use Rattle.pl_conflict.proofs.Sorting.{same, same_is}
 use Rattle.pl_moves.specs.Least.{least_known}
 use Rattle.pl_moves.specs.Runs.{CanBeMade}
-use Rattle.pl_update.specs.GoalsAndActivities.Near.{near, HoldSame}
+use Rattle.pl_moves.proofs.Made.{named_live}
+use Rattle.pl_update.specs.GoalsAndActivities.Near.{near}
 use Rattle.pl_update.specs.GoalsAndActivities.Touched.{touched_goals, touched_ids}
-use Rattle.pl_update.proofs.AboutGoalsAndActivities.Touching.{follows_same}
-use Rattle.pl_plan.specs.declared.repair.RepairMove.TheVariants.{Add, Delete}
+use Rattle.pl_plan.specs.declared.repair.RepairMove.TheVariants.{Add, Delete, Shift}
 use Rattle.pl_plan.specs.Fitting.{alternatives_of}
 use Rattle.pl_plan.specs.Trees.{subtree_of}
 use Rattle.pl_semantics.specs.declared.plan_state.PlanState.{PlanState}
+use Rattle.pl_semantics.specs.PlanStates.{among}
 use Rattle.pl_semantics.specs.Activities.{at_start, wrong_of}
 use Rattle.pl_semantics.specs.Conflicts.{conflicts_of}
 use Rattle.pl_semantics.specs.Moves.{applied, root_for}
@@ -24,82 +27,54 @@ use Rattle.pl_semantics.specs.Parts.{part_of, of_activities}
 use Rattle.pl_semantics.specs.Whole.{IsWhole}
 use Rattle.pl_bounds.specs.Counts.{AreApart}
 use Rattle.pl_bounds.specs.Plain.{is_plain, is_plain_part, count_of_plain}
-use Rattle.pl_bounds.specs.Standing.{HasUnset, IsLeftByNew, IsLeftByShift, IsOpenWithout, IsStandingOf, IsUnsetThen}
+use Rattle.pl_bounds.specs.Standing.{count_of_elsewhere, is_elsewhere, HasUnset, IsLeftByNew, IsOpenWithout, is_open_one, IsStandingOf, IsUnsetThen}
+use Rattle.pl_bounds.specs.Windows.{is_off, or_one_more, IsLeftByShift, IsWindowOf}
+use Rattle.pl_bounds.specs.declared.window.Window.{Window}
 use Rattle.pl_bounds.specs.declared.standing.Standing.{Standing}
-use Rattle.pl_bounds.proofs.Around.{left_around}
 use Rattle.pl_bounds.proofs.Differing.{has_passing}
 use Rattle.pl_bounds.proofs.Following.{all_but_wrong, is_kept, kept_stays, near_new, none_wrong_new}
 use Rattle.pl_bounds.proofs.Made.{follows, whole_then}
 use Rattle.pl_bounds.proofs.Reopened.{again, is_new, stands_again}
-use Rattle.pl_bounds.proofs.Shifted.{shift_left}
-use Rattle.pl_bounds.proofs.Leaving.{left_are_few, standing_apart}
+use Rattle.pl_bounds.proofs.Others.{deletion_leaves, shift_leaves, top_held}
+use Rattle.pl_bounds.proofs.Shifted.{LandsOff, lands_off, off_beside_unmoved, shift_left}
+use Rattle.pl_bounds.proofs.Leaving.{AreLeft, left_few, standing_apart, with_one}
 use Rattle.pl_bounds.proofs.Opens.{wrong_stands}
 use Rattle.pl_bounds.proofs.Unchosen.{unchosen}
 
--- ---- conflicts that are left
-
-record AreLeft (t : PlanState) (ks : List Conflict) : Type 0 where
-  apart : AreApart ks
-  each : (q : Conflict) → has q ks ≡ true → (has q (conflicts_of t) ≡ true) × (is_plain q ≡ true)
-
-left_few : (t : PlanState) (ks : List Conflict) → AreLeft t ks → length ks ≤ count_of_plain t
-left_few t ks are = left_are_few t ks are.apart are.each
-
-with_one : (t : PlanState) (ks : List Conflict) → AreLeft t ks → (k : Conflict) → has k ks ≡ false → has k (conflicts_of t) ≡ true → is_plain k ≡ true → AreLeft t (k ∷ ks)
-with_one t ks are k none stands plain = record { apart = (none, are.apart); each = λ q h. by q (same q k) refl h }
-  where
-    by : (q : Conflict) (b : Bool) → same q k ≡ b → (b || has q ks) ≡ true → (has q (conflicts_of t) ≡ true) × (is_plain q ≡ true)
-    by q true e there = subst (λ (z : Conflict). (has z (conflicts_of t) ≡ true) × (is_plain z ≡ true)) (sym (same_is q k e)) (stands, plain)
-    by q false e there = are.each q there
-
 -- ---- a deletion
 
-module _ (s : PlanState) (whole : IsWhole s) (next : s.next_id ≤ 3999999000) (id : ℕ) (can : CanBeMade s (Delete id)) (numbers ids : List ℕ) (same_numbers : HoldSame numbers (touched_goals s (subtree_of id s.plan.activities) [])) (same_ids : HoldSame ids (touched_ids s (subtree_of id s.plan.activities) [])) where
+module _ (s : PlanState) (whole : IsWhole s) (next : s.next_id ≤ 3999999000) (id : ℕ) (can : CanBeMade s (Delete id)) where
   abbrev gone : PlanState
   gone = applied s (Delete id)
 
+  abbrev is_other : Conflict → Bool
+  is_other = is_elsewhere (subtree_of id s.plan.activities)
+
   abbrev others_than : List Conflict
-  others_than = filter (is_kept (near s numbers ids)) (conflicts_of s)
+  others_than = filter is_other (conflicts_of s)
 
   whole_gone : IsWhole gone
   whole_gone = whole_then s whole next (Delete id) tt can
 
   stay_then : (q : Conflict) → has q others_than ≡ true → (has q (conflicts_of gone) ≡ true) × (is_plain q ≡ true)
-  stay_then =
-      kept_stays s gone whole whole_gone numbers ids
-      (follows_same s gone (touched_goals s (subtree_of id s.plan.activities) []) (touched_ids s (subtree_of id s.plan.activities) []) numbers ids (follows s whole next (Delete id) tt can) same_numbers same_ids)
+  stay_then = deletion_leaves s whole next id can
 
-  others_stay : length others_than ≤ count_of_plain gone
-  others_stay = left_are_few gone others_than (standing_apart s (is_kept (near s numbers ids))) stay_then
+  others_left_then : AreLeft gone others_than
+  others_left_then = record { apart = standing_apart s is_other; each = stay_then }
 
-  -- where its goal is open again
-  one_comes : IsOpenWithout s id → suc (length others_than) ≤ count_of_plain gone
-  one_comes of = left_are_few gone (again s whole id of whole_gone ∷ others_than) (not_there, standing_apart s (is_kept (near s numbers ids))) each
+  -- one comes where its goal is open again
+  one_comes : (of : IsOpenWithout s id) → AreLeft gone (again s whole id of whole_gone ∷ others_than)
+  one_comes of = with_one gone others_than others_left_then (again s whole id of whole_gone) not_there (stands_again s whole id of whole_gone) refl
     where
       not_there : has (again s whole id of whole_gone) others_than ≡ false
       not_there = false_from_ne_true (has (again s whole id of whole_gone) others_than) (λ h. absurd (
-          let there = (has_passing (is_kept (near s numbers ids)) (conflicts_of s) (again s whole id of whole_gone) h).0 in
+          let there = (has_passing is_other (conflicts_of s) (again s whole id of whole_gone) h).0 in
           let bad : true ≡ false = sym there ∙ is_new s whole id of whole_gone in
           cc))
 
-      each : (q : Conflict) → has q (again s whole id of whole_gone ∷ others_than) ≡ true → (has q (conflicts_of gone) ≡ true) × (is_plain q ≡ true)
-      each q h = by_first (same q (again s whole id of whole_gone)) refl h
-        where
-          by_first : (b : Bool) → same q (again s whole id of whole_gone) ≡ b → (b || has q others_than) ≡ true → (has q (conflicts_of gone) ≡ true) × (is_plain q ≡ true)
-          by_first true e there =
-              let is : again s whole id of whole_gone ≡ q = sym (same_is q (again s whole id of whole_gone) e) in
-              subst (λ (k : Conflict). (has k (conflicts_of gone) ≡ true) × (is_plain k ≡ true)) is (stands_again s whole id of whole_gone, refl)
-          by_first false e there = stay_then q there
-
-  pub delete_left : (most : ℕ) → most ≤ count_of_plain s → (b : Bool) → (b ≡ true → IsOpenWithout s id) → (most - length (near s numbers ids)) + cond b 1 0 ≤ count_of_plain gone
-  delete_left most low b reopened = by b reopened
-    where
-      enough : most ≤ length others_than + length (near s numbers ids)
-      enough = let all = all_but_wrong s (near s numbers ids) in omega (arith, all, low)
-
-      by : (b : Bool) → (b ≡ true → IsOpenWithout s id) → (most - length (near s numbers ids)) + cond b 1 0 ≤ count_of_plain gone
-      by true so = let left = one_comes (so refl) in omega (arith, enough, left)
-      by false so = let left = others_stay in omega (arith, enough, left)
+  pub delete_left : (most : ℕ) → most ≤ count_of_elsewhere s (subtree_of id s.plan.activities) → (b : Bool) → (b ≡ true → IsOpenWithout s id) → most + cond b 1 0 ≤ count_of_plain gone
+  delete_left most low true so = let left = left_few gone (again s whole id (so refl) whole_gone ∷ others_than) (one_comes (so refl)) in omega (arith, low, left)
+  delete_left most low false so = let left = left_few gone others_than others_left_then in omega (arith, low, left)
 
 -- ---- a new root
 
@@ -175,17 +150,57 @@ new_left s whole next kind start goal most low u so n few = λ to can. add_left 
 
 -- ---- a shift
 
--- as many open goals, and as many that are wrong with activities but for their starts
-pub unmoved_left : (s : PlanState) → IsWhole s → s.next_id ≤ 3999999000 → (o : Standing) → IsStandingOf s o → (id n : ℕ) → n ≤ o.unmoved → IsLeftByShift s id n
-unmoved_left s whole next o of id n few = λ to can.
-    let left = shift_left s whole next id to can in
-    let most = of.unmoved in
-    omega (arith, few, most, left)
+module _ (s : PlanState) (whole : IsWhole s) (next : s.next_id ≤ 3999999000) (id : ℕ) where
+  -- one more where the root that it moves starts outside the window of its goal
+  with_off : (n to : ℕ) → CanBeMade s (Shift id to) → n ≤ count_of_plain (applied s (Shift id to)) → (LandsOff s id to → suc n ≤ count_of_plain (applied s (Shift id to))) → (w : Option Window) → IfSome w (λ x. IsWindowOf s id x) → or_one_more w to n ≤ count_of_plain (applied s (Shift id to))
+  with_off n to can left more None of = omega (arith, left)
+  with_off n to can left more (Some w) of = by (is_off (Some w) to) refl
+    where
+      by : (b : Bool) → is_off (Some w) to ≡ b → n + cond b 1 0 ≤ count_of_plain (applied s (Shift id to))
+      by true e = let one = more (lands_off s whole next id to can of.g of.served (ap (λ (x : Window). is_off (Some x) to) (sym of.is) ∙ e)) in omega (arith, one)
+      by false e = omega (arith, left)
 
--- and all that is wrong but near its subtree: the greater of both
-pub greater_left : (s : PlanState) → IsWhole s → s.next_id ≤ 3999999000 → (o : Standing) → IsStandingOf s o → (id : ℕ) (numbers ids : List ℕ) → HoldSame numbers (touched_goals s (subtree_of id s.plan.activities) []) → HoldSame ids (touched_ids s (subtree_of id s.plan.activities) [])
-    → (n : ℕ) → n ≤ max o.unmoved (o.wrong - length (near s numbers ids)) → IsLeftByShift s id n
-greater_left s whole next o of id numbers ids same_numbers same_ids n few = λ to can.
-    let one = unmoved_left s whole next o of id o.unmoved (omega arith) to can in
-    let other = left_around s whole next id to can numbers ids same_numbers same_ids o.wrong of.plain in
-    omega (arith, few, one, other)
+  -- as many open goals, and as many that are wrong with activities but for their starts
+  pub unmoved_left : (o : Standing) → IsStandingOf s o → (n : ℕ) → n ≤ o.unmoved → IsLeftByShift s id n
+  unmoved_left o of n few w window to can =
+      let most = of.unmoved in
+      with_off n to can
+      (let left = shift_left s whole next id to can in omega (arith, few, most, left))
+      (λ off. let left = off_beside_unmoved s whole next id to can off in omega (arith, few, most, left))
+      w window
+
+  abbrev others_of : List Conflict
+  others_of = filter (is_elsewhere (subtree_of id s.plan.activities)) (conflicts_of s)
+
+  others_left_by : (to : ℕ) → CanBeMade s (Shift id to) → AreLeft (applied s (Shift id to)) others_of
+  others_left_by to can = record { apart = standing_apart s (is_elsewhere (subtree_of id s.plan.activities)); each = shift_leaves s whole next id to can }
+
+  off_beside : (to : ℕ) → CanBeMade s (Shift id to) → LandsOff s id to → suc (length others_of) ≤ count_of_plain (applied s (Shift id to))
+  off_beside to can off = left_few (applied s (Shift id to)) (off.k ∷ others_of) (with_one (applied s (Shift id to)) others_of (others_left_by to can) off.k none off.stands (ap (λ c. is_plain_part (part_of c)) off.why))
+    where
+      own : among off.k.subject (subtree_of id s.plan.activities) ≡ true
+      own = ap (λ n. among n (subtree_of id s.plan.activities)) off.of ∙ top_held s whole id (named_live s (Shift id to) can.proper)
+
+      none : has off.k others_of ≡ false
+      none = false_from_ne_true (has off.k others_of) (λ h. absurd (
+          let passes = (has_passing (is_elsewhere (subtree_of id s.plan.activities)) (conflicts_of s) off.k h).1 in
+          let either = and_second (is_plain off.k) (is_open_one off.k || not (among off.k.subject (subtree_of id s.plan.activities))) passes in
+          let closed : is_open_one off.k ≡ false = ap (λ c. eqb (code_number c) 0) off.why in
+          let neither : (is_open_one off.k || not (among off.k.subject (subtree_of id s.plan.activities))) ≡ false = ap (λ b. b || not (among off.k.subject (subtree_of id s.plan.activities))) closed ∙ ap (λ b. not b) own in
+          let bad : false ≡ true = sym neither ∙ either in
+          cc))
+
+  -- and all but what is wrong with its subtree
+  but_own_left : (n : ℕ) → n ≤ count_of_elsewhere s (subtree_of id s.plan.activities) → IsLeftByShift s id n
+  but_own_left n few w window to can =
+      with_off n to can
+      (let left = left_few (applied s (Shift id to)) others_of (others_left_by to can) in omega (arith, few, left))
+      (λ off. let left = off_beside to can off in omega (arith, few, left))
+      w window
+
+  -- the greater of both
+  pub greater_left : (o : Standing) → IsStandingOf s o → (others : ℕ) → others ≤ count_of_elsewhere s (subtree_of id s.plan.activities) → (n : ℕ) → n ≤ max o.unmoved others → IsLeftByShift s id n
+  greater_left o of others most n few w window to can =
+      let one = unmoved_left o of o.unmoved (omega arith) w window to can in
+      let other = but_own_left others most w window to can in
+      omega (arith, few, one, other)

@@ -9,19 +9,24 @@ use Rattle.pl_bounds.specs.Asked.{IsAlike, IsAskedBy}
 use Rattle.pl_bounds.specs.Parted.{IsPartOf}
 use Rattle.pl_bounds.specs.Plain.{count_of_plain}
 use Rattle.pl_bounds.specs.Ties.{lone_then, count_of_links}
+use Rattle.pl_bounds.specs.Windows.{or_one_more}
 use Rattle.pl_bounds.specs.declared.known.Known.{Known}
 use Rattle.pl_bounds.specs.declared.runs.Run.{Run}
+
+-- so many conflicts of goals and activities the move leaves at least that starts then
+abbrev pub steady_then : Known → ℕ → ℕ
+steady_then k start = or_one_more k.window start k.steady
 
 -- Of each move alike that can be made: how many conflicts of goals and activities it leaves at least, an activity whose links are
 -- conflicts where they find no partner at the move's start, and what it asks for, if that is known.
 pub record IsKnownOf (s : PlanState) (k : Known) : Type 0 where
-  pub steady : (m : RepairMove) → CanBeMade s m → IsAlike k.first m → k.steady ≤ count_of_plain (applied s m)
+  pub steady : (m : RepairMove) → CanBeMade s m → IsAlike k.first m → steady_then k (start_of m) ≤ count_of_plain (applied s m)
   pub alone : (m : RepairMove) → CanBeMade s m → IsAlike k.first m → lone_then s (start_of m) k.alone ≤ count_of_links (applied s m)
   pub asking : IfSome k.asking (λ a. (m : RepairMove) → CanBeMade s m → IsAlike k.first m → IsAskedBy s (gone_by s m) (placed_by s m) a (start_of m))
 
 -- no more than such a number
 abbrev pub only_steady : RepairMove → ℕ → Known
-only_steady first n = record { first = first; steady = n; alone = None; asking = None }
+only_steady first n = record { first = first; steady = n; window = None; alone = None; asking = None }
 
 -- what is known of its moves, and the parts of what they ask for
 pub record IsRunOf (s : PlanState) (r : Run) : Type 0 where

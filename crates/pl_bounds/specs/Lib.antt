@@ -25,6 +25,7 @@ pub mod Plain
 pub mod Bounds
 pub mod Known
 pub mod Standing
+pub mod Windows
 pub mod Afterwards
 pub mod Parted
 pub mod Changed

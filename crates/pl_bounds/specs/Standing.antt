@@ -1,20 +1,20 @@
 -- Conflicts of goals and of activities that stand, and how many of them a move leaves at least.
-use Rattle.std.specs.Prelude.{◌≡◌, ℕ, ◌≤◌, ◌==◌, Bool, true, false, [], ◌∷◌, Option, Some, filter, length}
+use Rattle.std.specs.Prelude.{◌≡◌, ℕ, ◌≤◌, ◌==◌, ◌&&◌, ◌||◌, not, Bool, true, false, List, [], ◌∷◌, Option, Some, filter, length}
 use Rattle.pl_conflict.specs.declared.conflict.Conflict.{Conflict}
 use Rattle.pl_conflict.specs.declared.conflict.Code.{Code}
 use Rattle.pl_conflict.specs.Codes.{code_number}
 use Rattle.pl_conflict.specs.Order.{has}
 use Rattle.pl_conflict.specs.declared.conflict.Code.TheVariants as code
-use Rattle.pl_plan.specs.declared.repair.RepairMove.TheVariants.{Add, Shift}
+use Rattle.pl_plan.specs.declared.repair.RepairMove.TheVariants.{Add}
 use Rattle.pl_moves.specs.Runs.{CanBeMade}
 use Rattle.pl_semantics.specs.declared.plan_state.PlanState.{PlanState}
 use Rattle.pl_facts.specs.declared.goal.Goal.{Goal}
 use Rattle.pl_plan.specs.declared.activity.Activity.{Activity}
 use Rattle.pl_plan.specs.Serving.{served_in, serving}
-use Rattle.pl_semantics.specs.PlanStates.{floor_of, found, goal_at}
+use Rattle.pl_semantics.specs.PlanStates.{among, floor_of, found, goal_at}
 use Rattle.pl_semantics.specs.Conflicts.{conflicts_of}
 use Rattle.pl_semantics.specs.Moves.{applied}
-use Rattle.pl_bounds.specs.Plain.{count_of_plain}
+use Rattle.pl_bounds.specs.Plain.{is_plain, count_of_plain}
 use Rattle.pl_bounds.specs.declared.standing.Standing.{Standing}
 
 -- a shift changes at most from when it is told: an open goal, or what is wrong with an activity but for its start
@@ -44,6 +44,18 @@ is_valueless_one q = is_valueless q.code
 -- how many of them stand
 abbrev pub count_of_valueless : PlanState → ℕ
 count_of_valueless s = length (filter is_valueless_one (conflicts_of s))
+
+-- it tells of an open goal
+abbrev pub is_open_one : Conflict → Bool
+is_open_one q = code_number q.code == code_number code.OpenGoal
+
+-- an open goal, or what is wrong with an activity that is none of these
+abbrev pub is_elsewhere : List ℕ → Conflict → Bool
+is_elsewhere ids q = is_plain q && (is_open_one q || not (among q.subject ids))
+
+-- how many of them stand
+abbrev pub count_of_elsewhere : PlanState → List ℕ → ℕ
+count_of_elsewhere s ids = length (filter (is_elsewhere ids) (conflicts_of s))
 
 -- no more than stand
 pub record IsStandingOf (s : PlanState) (o : Standing) : Type 0 where
@@ -84,7 +96,3 @@ IsUnsetThen s kind goal = (t : ℕ) → CanBeMade s (Add kind t goal) → HasUns
 -- a number of conflicts of goals and activities that a new root of this kind for this goal leaves at least, whenever it starts
 abbrev pub IsLeftByNew : PlanState → ℕ → Option ℕ → ℕ → Type 0
 IsLeftByNew s kind goal n = (to : ℕ) → CanBeMade s (Add kind to goal) → n ≤ count_of_plain (applied s (Add kind to goal))
-
--- and one that a shift leaves at least, to whichever start
-abbrev pub IsLeftByShift : PlanState → ℕ → ℕ → Type 0
-IsLeftByShift s id n = (to : ℕ) → CanBeMade s (Shift id to) → n ≤ count_of_plain (applied s (Shift id to))

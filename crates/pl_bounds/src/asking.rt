@@ -1,7 +1,7 @@
 //! What a move asks for of timelines in place of what it takes out.
-ghost use Rattle.std.specs.Prelude.{◌≡◌, ◌≤◌, ◌++◌, [], ℕ, IfOk, IfSome, OnOk};
+ghost use Rattle.std.specs.Prelude.{◌≡◌, ◌≤◌, ◌++◌, [], ℕ, false, Some, IfOk, IfSome, OnOk};
 ghost use Rattle.pl_update.specs.Timelines.Laws.{gone_from};
-ghost use Rattle.pl_plan.specs.Activities.{IsLive};
+ghost use Rattle.pl_plan.specs.Activities.{IsLive, activity_of};
 ghost use Rattle.pl_plan.specs.Trees.{subtree_of};
 ghost use Rattle.pl_plan.specs.declared.repair.RepairMove.TheVariants.{Delete, Shift};
 ghost use Rattle.pl_semantics.specs.Demands.{demands_at, demands_of};
@@ -9,7 +9,9 @@ ghost use Rattle.pl_semantics.specs.PlanStates.{found, of_found};
 ghost use Rattle.pl_semantics.specs.Whole.{IsWhole};
 ghost use Rattle.pl_bounds.specs.Askings.{IsAskingOf};
 
-use pl_detect::{demands, demands_at};
+use pl_board::Board;
+use pl_detect::{demands, demands_with};
+use pl_plan::Activity;
 use pl_semantics::{Demand, PlanState};
 use std::alloc::{AllocError, Global};
 
@@ -21,34 +23,47 @@ pub(crate) struct Asking {
     pub(crate) start: u32,
 }
 
-fn add_asked(alloc: Global, s: &PlanState, id: u32, all: &mut Vec<Demand>) -> Result<(), AllocError>
-    requires { IsWhole s.now }
-    ensures { OnOk result (all.new.items ≡ all.old.items ++ of_found (demands_at s.now) (found s.now id)) }
+// What a live activity asks for, by what it comes to, which the board keeps.
+fn add_asked(board: &Board, a: &Activity, all: &mut Vec<Demand>) -> Result<(), AllocError>
+    requires unspoiled { board.now.spoiled ≡ false }
+    requires live { activity_of a.now.id board.now.state.plan.activities ≡ Some a.now }
+    ensures { OnOk result (all.new.items ≡ all.old.items ++ demands_at board.now.state a.now) }
 {
-    match s.plan.get(id) {
-        Some(a) => demands_at(alloc, s, a, all),
+    let s = board.state();
+    match board.evaluated(a.id) {
+        Some(evaluated) => demands_with(s, a, evaluated, all),
+        None => unreachable!(),
+    }
+}
+
+fn add_asked_by(board: &Board, id: u32, all: &mut Vec<Demand>) -> Result<(), AllocError>
+    requires { board.now.spoiled ≡ false }
+    ensures { OnOk result (all.new.items ≡ all.old.items ++ of_found (demands_at board.now.state) (found board.now.state id)) }
+{
+    match board.plan().get(id) {
+        Some(a) => add_asked(board, a, all),
         None => Ok(()),
     }
 }
 
 // What the activities of these ids ask for.
-fn asked_by(alloc: Global, s: &PlanState, ids: &[u32]) -> Result<Vec<Demand>, AllocError>
-    requires { IsWhole s.now }
-    ensures { IfOk result (λ all. all.items ≡ gone_from s.now ids.now) }
+fn asked_by(alloc: Global, board: &Board, ids: &[u32]) -> Result<Vec<Demand>, AllocError>
+    requires { board.now.spoiled ≡ false }
+    ensures { IfOk result (λ all. all.items ≡ gone_from board.now.state ids.now) }
 {
     let mut all = Vec::new(alloc);
     for id in ids {
-        add_asked(alloc, s, *id, &mut all)?;
+        add_asked_by(board, *id, &mut all)?;
     }
     Ok(all)
 }
 
 // Of a deletion, given the ids of the subtree that goes.
-fn deleted(alloc: Global, s: &PlanState, subtree: &[u32]) -> Result<Asking, AllocError>
-    requires { IsWhole s.now }
-    ensures { IfOk result (λ a. (id : ℕ) → subtree.now ≡ subtree_of id s.now.plan.activities → IsAskingOf s.now (Delete id) a) }
+fn deleted(alloc: Global, board: &Board, subtree: &[u32]) -> Result<Asking, AllocError>
+    requires { board.now.spoiled ≡ false }
+    ensures { IfOk result (λ a. (id : ℕ) → subtree.now ≡ subtree_of id board.now.state.plan.activities → IsAskingOf board.now.state (Delete id) a) }
 {
-    let going = asked_by(alloc, s, subtree)?;
+    let going = asked_by(alloc, board, subtree)?;
     Ok(Asking {
         going,
         coming: Vec::new(alloc),
@@ -59,15 +74,15 @@ fn deleted(alloc: Global, s: &PlanState, subtree: &[u32]) -> Result<Asking, Allo
 /// Of a deletion, given the ids of the subtree that goes, if it is wanted.
 pub(crate) fn deleted_if(
     alloc: Global,
-    s: &PlanState,
+    board: &Board,
     subtree: &[u32],
     is_wanted: bool,
 ) -> Result<Option<Asking>, AllocError>
-    requires { IsWhole s.now }
-    ensures { IfOk result (λ o. (id : ℕ) → subtree.now ≡ subtree_of id s.now.plan.activities → IfSome o (λ a. IsAskingOf s.now (Delete id) a)) }
+    requires { board.now.spoiled ≡ false }
+    ensures { IfOk result (λ o. (id : ℕ) → subtree.now ≡ subtree_of id board.now.state.plan.activities → IfSome o (λ a. IsAskingOf board.now.state (Delete id) a)) }
 {
     if is_wanted {
-        let asking = deleted(alloc, s, subtree)?;
+        let asking = deleted(alloc, board, subtree)?;
         Ok(Some(asking))
     } else {
         Ok(None)
@@ -85,14 +100,15 @@ fn start_at(s: &PlanState, id: u32) -> u32
 }
 
 // Of a shift to any start, given the ids of the subtree that moves.
-fn shifted(alloc: Global, s: &PlanState, id: u32, subtree: &[u32]) -> Result<Asking, AllocError>
-    requires whole { IsWhole s.now }
-    requires next { s.now.next_id ≤ 3999999000 }
-    requires live { IsLive id s.now.plan.activities }
-    requires subtree { subtree.now ≡ subtree_of id s.now.plan.activities }
-    ensures { IfOk result (λ a. (start : ℕ) → IsAskingOf s.now (Shift id start) a) }
+fn shifted(alloc: Global, board: &Board, id: u32, subtree: &[u32]) -> Result<Asking, AllocError>
+    requires unspoiled { board.now.spoiled ≡ false }
+    requires next { board.now.state.next_id ≤ 3999999000 }
+    requires live { IsLive id board.now.state.plan.activities }
+    requires subtree { subtree.now ≡ subtree_of id board.now.state.plan.activities }
+    ensures { IfOk result (λ a. (start : ℕ) → IsAskingOf board.now.state (Shift id start) a) }
 {
-    let going = asked_by(alloc, s, subtree)?;
+    let s = board.state();
+    let going = asked_by(alloc, board, subtree)?;
     let coming = going.to_vec(alloc)?;
     Ok(Asking {
         going,
@@ -104,19 +120,19 @@ fn shifted(alloc: Global, s: &PlanState, id: u32, subtree: &[u32]) -> Result<Ask
 /// Of a shift to any start, given the ids of the subtree that moves, if it is wanted.
 pub(crate) fn shifted_if(
     alloc: Global,
-    s: &PlanState,
+    board: &Board,
     id: u32,
     subtree: &[u32],
     is_wanted: bool,
 ) -> Result<Option<Asking>, AllocError>
-    requires whole { IsWhole s.now }
-    requires next { s.now.next_id ≤ 3999999000 }
-    requires live { IsLive id s.now.plan.activities }
-    requires subtree { subtree.now ≡ subtree_of id s.now.plan.activities }
-    ensures { IfOk result (λ o. (start : ℕ) → IfSome o (λ a. IsAskingOf s.now (Shift id start) a)) }
+    requires unspoiled { board.now.spoiled ≡ false }
+    requires next { board.now.state.next_id ≤ 3999999000 }
+    requires live { IsLive id board.now.state.plan.activities }
+    requires subtree { subtree.now ≡ subtree_of id board.now.state.plan.activities }
+    ensures { IfOk result (λ o. (start : ℕ) → IfSome o (λ a. IsAskingOf board.now.state (Shift id start) a)) }
 {
     if is_wanted {
-        let asking = shifted(alloc, s, id, subtree)?;
+        let asking = shifted(alloc, board, id, subtree)?;
         Ok(Some(asking))
     } else {
         Ok(None)

@@ -74,8 +74,10 @@ fn least_by(board: &Board, outsides: &[Outside], run: &Run, mv: &RepairMove) -> 
     ensures { result ≤ left_after board.now.state mv.now }
 {
     let others = others_by(board, outsides, run, mv);
-    let lone = lone_then(board, run.known.alone, start_of(mv));
-    let least = run.known.steady.saturating_add(lone).saturating_add(others);
+    let start = start_of(mv);
+    let steady = run.known.steady_at(start);
+    let lone = lone_then(board, run.known.alone, start);
+    let least = steady.saturating_add(lone).saturating_add(others);
     least.max(least_left(board.state(), mv))
 }
 

@@ -4,28 +4,40 @@ ghost use Rattle.pl_moves.specs.Runs.{CanBeMade};
 ghost use Rattle.pl_plan.specs.declared.repair.RepairMove.TheVariants.{Add, Delete, Shift};
 ghost use Rattle.pl_semantics.specs.Whole.{IsWhole};
 ghost use Rattle.pl_bounds.specs.Asked.{IsAlike};
-ghost use Rattle.pl_bounds.specs.Known.{IsKnownOf, only_steady};
+ghost use Rattle.pl_bounds.specs.Known.{IsKnownOf, only_steady, steady_then};
 ghost use Rattle.pl_bounds.specs.Standing.{IsStandingOf};
 
 use crate::asking::{Asking, added, deleted_if, shifted_if};
 use crate::roots::root_alone;
-use crate::standing::Standing;
+use crate::standing::{Standing, count_if};
 use crate::steady::{left_by_deletion, left_by_new, left_by_shift};
+use crate::subtrees::subtree;
 use crate::tying::{added_alone, moved_alone};
+use crate::window::{Window, is_off, window_of};
 use pl_board::Board;
 use pl_links::Placed;
 use pl_plan::RepairMove;
 use pl_semantics::PlanState;
 use std::alloc::{AllocError, Global};
 
-/// Of a move, and of those that go on with it: how many conflicts of goals and activities each leaves at least, the activity that it
-/// moves alone or adds, and what it asks for.
+/// Of a move, and of those that go on with it: how many conflicts of goals and activities each leaves at least, and one more where it
+/// starts outside a window; the activity that it moves alone or adds; and what it asks for.
 #[derive(Drop)]
 pub(crate) struct Known {
     pub(crate) first: RepairMove,
     pub(crate) steady: u32,
+    pub(crate) window: Option<Window>,
     pub(crate) alone: Option<Placed>,
     pub(crate) asking: Option<Asking>,
+}
+
+impl Known {
+    /// So many conflicts of goals and activities the move leaves at least that starts then.
+    pub(crate) fn steady_at(&self, start: u32) -> u32
+        ensures { result ≤ steady_then self.now start }
+    {
+        count_if(is_off(self.window, start), self.steady)
+    }
 }
 
 // Of the addition of a root, which is made once, alone in a plan of its own.
@@ -50,6 +62,7 @@ fn known_of_new(
     Ok(Known {
         first: RepairMove::Add { kind, start, goal },
         steady,
+        window: None,
         alone: Some(added_alone(&alone, s.next_id, kind, start)),
         asking: Some(asking),
     })
@@ -58,24 +71,24 @@ fn known_of_new(
 // Of a deletion.
 fn known_of_deletion(
     alloc: Global,
-    s: &PlanState,
-    standing: &Standing,
+    board: &Board,
     id: u32,
     is_asked: bool,
 ) -> Result<Known, AllocError>
-    requires whole { IsWhole s.now }
-    requires next { s.now.next_id ≤ 3999999000 }
-    requires standing { IsStandingOf s.now standing.now }
-    requires allowed { CanBeMade s.now (Delete id) }
-    ensures known { IfOk result (λ k. IsKnownOf s.now k) }
+    requires unspoiled { board.now.spoiled ≡ false }
+    requires next { board.now.state.next_id ≤ 3999999000 }
+    requires allowed { CanBeMade board.now.state (Delete id) }
+    ensures known { IfOk result (λ k. IsKnownOf board.now.state k) }
     ensures alike { IfOk result (λ k. IsAlike k.first (Delete id)) }
 {
-    let subtree = s.plan.subtree(alloc, id)?;
-    let steady = left_by_deletion(alloc, s, standing.wrong, id, &subtree)?;
-    let asking = deleted_if(alloc, s, &subtree, is_asked)?;
+    let s = board.state();
+    let subtree = subtree(alloc, s, id)?;
+    let steady = left_by_deletion(alloc, board, id, &subtree)?;
+    let asking = deleted_if(alloc, board, &subtree, is_asked)?;
     Ok(Known {
         first: RepairMove::Delete { id },
         steady,
+        window: None,
         alone: None,
         asking,
     })
@@ -98,12 +111,13 @@ fn known_of_shift(
     ensures alike { IfOk result (λ k. IsAlike k.first (Shift id start)) }
 {
     let s = board.state();
-    let subtree = s.plan.subtree(alloc, id)?;
-    let steady = left_by_shift(alloc, s, standing, id, &subtree)?;
-    let asking = shifted_if(alloc, s, id, &subtree, is_asked)?;
+    let subtree = subtree(alloc, s, id)?;
+    let steady = left_by_shift(board, standing, id, &subtree);
+    let asking = shifted_if(alloc, board, id, &subtree, is_asked)?;
     Ok(Known {
         first: RepairMove::Shift { id, start },
         steady,
+        window: window_of(s, id),
         alone: moved_alone(board, id, &subtree),
         asking,
     })
@@ -116,6 +130,7 @@ fn known_of_other(mv: &RepairMove, steady: u32) -> Known
     Known {
         first: *mv,
         steady,
+        window: None,
         alone: None,
         asking: None,
     }
@@ -141,7 +156,7 @@ pub(crate) fn known_of(
         RepairMove::Add { kind, start, goal } => known_of_new(
             alloc, s, standing, kind, start, goal,
         ),
-        RepairMove::Delete { id } => known_of_deletion(alloc, s, standing, id, is_asked),
+        RepairMove::Delete { id } => known_of_deletion(alloc, board, id, is_asked),
         RepairMove::Shift { id, start } => known_of_shift(
             alloc, board, standing, id, start, is_asked,
         ),

@@ -44,8 +44,8 @@ fn serves_alone(alloc: Global, s: &PlanState, id: u32, number: u32) -> Result<bo
     Ok(is_only(ids.as_slice(), id))
 }
 
-// The goal that the activity of this id serves, if there is one.
-fn goal_of<'s>(s: &'s PlanState, id: u32) -> Option<&'s Goal>
+/// The goal that the activity of this id serves, if there is one.
+pub(crate) fn goal_of<'s>(s: &'s PlanState, id: u32) -> Option<&'s Goal>
     ensures { IfSome result (λ goal. IsServedBy s.now id goal.now) }
 {
     let a = s.plan.get(id)?;

@@ -33,8 +33,8 @@ fn is_valueless(code: Code) -> bool
     matches!(code, Code::OpenGoal | Code::Undetailed)
 }
 
-// Whether a conflict of this code is of a goal or of an activity.
-fn is_plain(code: Code) -> bool
+/// Whether a conflict of this code is of a goal or of an activity.
+pub(crate) fn is_plain(code: Code) -> bool
     ensures { result ≡ is_plain_part (part_of code) }
 {
     matches!(

@@ -1,5 +1,5 @@
 -- A move that starts between two legal ones, and places the same, is legal.
-use Rattle.std.proofs.Common.{◌≡◌, ℕ, ◌+◌, ◌-◌, ◌≤◌, ◌<◌, true, false, List, [], ◌∷◌, map, filter, refl, sym, ap, ◌∙◌, arith, inr}
+use Rattle.std.proofs.Common.{◌≡◌, ℕ, ◌+◌, ◌-◌, ◌≤◌, ◌<◌, true, false, List, [], ◌∷◌, map, filter, refl, ap, arith, inr}
 use Rattle.std.specs.Prelude.{All, Option, Some, None, ◌&&◌, is_none, nat_le}
 use Rattle.std.specs.List.{list_all}
 use Rattle.std.proofs.lemmas.Bool.{and_from, and_parts, leb-true}

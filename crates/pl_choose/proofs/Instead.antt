@@ -1,15 +1,13 @@
 -- One move in place of another that takes out the same activities.
-use Rattle.std.proofs.Common.{◌≡◌, ℕ, ◌+◌, ◌<◌, ◌≤◌, eqb, Bool, true, false, List, [], ◌∷◌, ◌++◌, map, length, get_or, refl, sym, ap, ◌∙◌, subst, arith}
+use Rattle.std.proofs.Common.{◌≡◌, ℕ, ◌+◌, ◌≤◌, eqb, Bool, true, false, List, [], ◌∷◌, map, length, get_or, refl, sym, ap, ◌∙◌, subst, arith}
 use Rattle.std.specs.Prelude.{max, All, Option, Some, None, if◌then◌else◌}
 use Rattle.std.specs.Option.{option_or}
 use Rattle.std.proofs.lemmas.Bool.{eqb-true}
 use Rattle.std.proofs.lemmas.List.Elements.{All-head, All-tail}
-use Rattle.pl_lists.proofs.Tests.{or_first_false, or_second_false}
 use Rattle.pl_plan.specs.declared.activity.Activity.{Activity}
 use Rattle.pl_plan.specs.Activities.{AreRising, IsLive, activity_of}
 use Rattle.pl_plan.specs.Trees.{Descends, itself, child, id_of, parent_of}
 use Rattle.pl_plan.specs.Fitting.{Fits}
-use Rattle.pl_plan.specs.Laws.{AreSameAbove}
 use Rattle.pl_plan.specs.Values.{values_of}
 use Rattle.pl_plan.proofs.LocalValues.{values_local}
 use Rattle.pl_plan.proofs.LookUpLaws.{same_activities}

@@ -6,6 +6,6 @@ use Rattle.pl_bounds.proofs.asking.deleted.Goals as goal
 
 pub returns : goal.returns
 returns c = λ id is.
-    let s = c.args.s.now in
+    let s = c.args.board.now.state in
     let a : Asking = record { going = c.in_ok-going.going; coming = c.new.result; start = 0 } in
     deletion_asks s id a (c.in_ok-going.ensures ∙ ap (gone_from s) is) c.new.ensures.items

@@ -21,6 +21,3 @@ returns-in_default-clause-known c =
 
 pub returns-in-Add-clause-known : goal.returns-in-Add-clause-known
 returns-in-Add-clause-known c = subst (λ (t : PlanState). IfOk c.known_of_new.result (λ k. IsKnownOf t k)) c.state-s.ensures.value c.known_of_new.ensures.known
-
-pub returns-in-Delete-clause-known : goal.returns-in-Delete-clause-known
-returns-in-Delete-clause-known c = subst (λ (t : PlanState). IfOk c.known_of_deletion.result (λ k. IsKnownOf t k)) c.state-s.ensures.value c.known_of_deletion.ensures.known

@@ -1,11 +1,24 @@
-use Rattle.std.proofs.Common.{◌∙◌}
+use Rattle.std.proofs.Common.{◌∙◌, ap, sym, subst}
 use Rattle.pl_plan.specs.declared.repair.RepairMove.TheVariants.{Delete}
+use Rattle.pl_plan.specs.Activities.{IsLive}
+use Rattle.pl_plan.specs.Trees.{subtree_of}
 use Rattle.pl_moves.proofs.Made.{named_live}
+use Rattle.pl_semantics.specs.declared.plan_state.PlanState.{PlanState}
 use Rattle.pl_bounds.proofs.Knowing.{known_deletion}
 use Rattle.pl_bounds.proofs.known.known_of_deletion.Goals as goal
 
 pub subtree-requires-clause-live : goal.subtree-requires-clause-live
-subtree-requires-clause-live c = named_live c.args.s.now (Delete c.args.id) c.requires.allowed.proper
+subtree-requires-clause-live c =
+    let id = c.args.id in
+    subst (λ (t : PlanState). IsLive id t.plan.activities) (sym c.state-s.ensures.value) (named_live c.args.board.now.state (Delete id) c.requires.allowed.proper)
+
+pub left_by_deletion-requires-clause-subtree : goal.left_by_deletion-requires-clause-subtree
+left_by_deletion-requires-clause-subtree c = c.deref.ensures.value ∙ (c.in_ok-subtree.ensures ∙ ap (λ (t : PlanState). subtree_of c.args.id t.plan.activities) c.state-s.ensures.value)
 
 pub returns-clause-known : goal.returns-clause-known
-returns-clause-known c = known_deletion c.args.s.now c.args.id c.in_ok-steady.steady c.in_ok-steady.ensures c.in_ok-asking.asking (c.in_ok-asking.ensures c.args.id (c.deref-2.ensures.value ∙ c.in_ok-subtree.ensures))
+returns-clause-known c =
+    let is = c.state-s.ensures.value in
+    let s = c.args.board.now.state in
+    let id = c.args.id in
+    let of = c.deref-2.ensures.value ∙ (c.in_ok-subtree.ensures ∙ ap (λ (t : PlanState). subtree_of id t.plan.activities) is) in
+    known_deletion s id c.in_ok-steady.steady c.in_ok-steady.ensures c.in_ok-asking.asking (c.in_ok-asking.ensures id of)

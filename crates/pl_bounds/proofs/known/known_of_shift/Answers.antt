@@ -5,8 +5,7 @@ use Rattle.pl_plan.specs.Activities.{IsLive}
 use Rattle.pl_plan.specs.Trees.{subtree_of}
 use Rattle.pl_moves.proofs.Made.{named_live}
 use Rattle.pl_semantics.specs.declared.plan_state.PlanState.{PlanState}
-use Rattle.pl_bounds.specs.Askings.{IsAskingOf}
-use Rattle.pl_bounds.specs.Standing.{IsLeftByShift}
+use Rattle.pl_bounds.specs.Windows.{IsWindowOf}
 use Rattle.pl_bounds.proofs.Knowing.{known_shift}
 use Rattle.pl_bounds.proofs.known.known_of_shift.Goals as goal
 
@@ -15,19 +14,21 @@ subtree-requires-clause-live c =
     let id = c.args.id in
     subst (λ (t : PlanState). IsLive id t.plan.activities) (sym c.state-s.ensures.value) (named_live c.args.board.now.state (Shift id c.args.start) c.requires.allowed.proper)
 
+pub left_by_shift-steady-requires-clause-subtree : goal.left_by_shift-steady-requires-clause-subtree
+left_by_shift-steady-requires-clause-subtree c = c.deref.ensures.value ∙ (c.in_ok-subtree.ensures ∙ ap (λ (t : PlanState). subtree_of c.args.id t.plan.activities) c.state-s.ensures.value)
+
 pub shifted_if-requires-clause-live : goal.shifted_if-requires-clause-live
-shifted_if-requires-clause-live c =
-    let id = c.args.id in
-    subst (λ (t : PlanState). IsLive id t.plan.activities) (sym c.state-s.ensures.value) (named_live c.args.board.now.state (Shift id c.args.start) c.requires.allowed.proper)
+shifted_if-requires-clause-live c = named_live c.args.board.now.state (Shift c.args.id c.args.start) c.requires.allowed.proper
+
+pub shifted_if-requires-clause-subtree : goal.shifted_if-requires-clause-subtree
+shifted_if-requires-clause-subtree c = c.deref-2.ensures.value ∙ (c.in_ok-subtree.ensures ∙ ap (λ (t : PlanState). subtree_of c.args.id t.plan.activities) c.state-s.ensures.value)
 
 pub moved_alone-requires-clause-subtree : goal.moved_alone-requires-clause-subtree
 moved_alone-requires-clause-subtree c = c.deref-3.ensures.value ∙ (c.in_ok-subtree.ensures ∙ ap (λ (t : PlanState). subtree_of c.args.id t.plan.activities) c.state-s.ensures.value)
 
 pub returns-clause-known : goal.returns-clause-known
 returns-clause-known c =
-    let is = c.state-s.ensures.value in
     let s = c.args.board.now.state in
     let id = c.args.id in
-    let left = subst (λ (t : PlanState). IsLeftByShift t id c.in_ok-steady.steady) is c.in_ok-steady.ensures in
-    let asks = subst (λ (t : PlanState). IfSome c.in_ok-asking.asking (λ a. IsAskingOf t (Shift id c.args.start) a)) is (c.in_ok-asking.ensures c.args.start) in
-    known_shift s id c.args.start c.in_ok-steady.steady left c.moved_alone.result c.moved_alone.ensures c.in_ok-asking.asking asks
+    let window = subst (λ (t : PlanState). IfSome c.window_of.result (λ w. IsWindowOf t id w)) c.state-s.ensures.value c.window_of.ensures in
+    known_shift s id c.args.start c.left_by_shift-steady.result c.left_by_shift-steady.ensures c.window_of.result window c.moved_alone.result c.moved_alone.ensures c.in_ok-asking.asking (c.in_ok-asking.ensures c.args.start)

@@ -1,21 +1,21 @@
-use Rattle.std.proofs.Common.{ℕ, List, [], sym, subst, arith}
-use Rattle.std.specs.Prelude.{All}
-use Rattle.pl_plan.specs.Activities.{IsLive}
-use Rattle.pl_update.specs.GoalsAndActivities.Near.{HoldSame}
-use Rattle.pl_update.specs.GoalsAndActivities.Touched.{touched_goals, touched_ids}
+use Rattle.std.proofs.Common.{◌≡◌, ◌≤◌, List, ℕ, true, subst, arith}
+use Rattle.std.specs.Prelude.{filter, length}
+use Rattle.pl_conflict.specs.declared.conflict.Conflict.{Conflict}
+use Rattle.pl_plan.specs.Trees.{subtree_of}
+use Rattle.pl_semantics.specs.declared.plan_state.PlanState.{PlanState}
+use Rattle.pl_semantics.specs.Whole.{IsWhole}
+use Rattle.pl_bounds.specs.Standing.{count_of_elsewhere, is_elsewhere, IsOpenWithout}
 use Rattle.pl_bounds.proofs.Staying.{delete_left}
-use Rattle.pl_bounds.proofs.Under.{subtree_live}
 use Rattle.pl_bounds.proofs.steady.left_by_deletion.Goals as goal
-
-pub touched_by-requires-clause-live : goal.touched_by-requires-clause-live
-touched_by-requires-clause-live c = subst (λ (ids : List ℕ). All (λ id. IsLive id c.args.s.now.plan.activities) ids) (sym c.requires.subtree) (subtree_live c.args.s.now.plan.activities c.requires.whole.rising c.args.id)
 
 pub returns : goal.returns
 returns c =
-    let s = c.args.s.now in
-    let t = c.in_ok-touched.touched in
-    let numbers = subst (λ (ids : List ℕ). HoldSame t.numbers.items (touched_goals s ids [])) c.requires.subtree c.in_ok-touched.ensures.numbers in
-    let ids = subst (λ (ids : List ℕ). HoldSame t.ids.items (touched_ids s ids [])) c.requires.subtree c.in_ok-touched.ensures.ids in
-    let most = delete_left s c.requires.whole c.requires.next c.args.id c.requires.allowed t.numbers.items t.ids.items numbers ids c.args.wrong c.requires.wrong c.in_ok-is_open.is_open c.in_ok-is_open.ensures in
-    let count = c.in_ok-gone.ensures in
-    omega (arith, most, count, c.count_if.ensures)
+    let is = c.state-s.ensures.value in
+    let s = c.args.board.now.state in
+    let id = c.args.id in
+    let whole : IsWhole s = subst (λ (t : PlanState). IsWhole t) is (c.state-s.ensures.whole c.requires.unspoiled) in
+    let of_board = subst (λ (ks : List Conflict). c.count_elsewhere-left.result ≤ length (filter (is_elsewhere c.args.subtree.now) ks)) (c.conflicts.ensures c.requires.unspoiled) c.count_elsewhere-left.ensures in
+    let others : c.count_elsewhere-left.result ≤ count_of_elsewhere s (subtree_of id s.plan.activities) = subst (λ (ids : List ℕ). c.count_elsewhere-left.result ≤ count_of_elsewhere s ids) c.requires.subtree of_board in
+    let reopened : c.in_ok-is_open.is_open ≡ true → IsOpenWithout s id = λ h. subst (λ (t : PlanState). IsOpenWithout t id) is (c.in_ok-is_open.ensures h) in
+    let most = delete_left s whole c.requires.next id c.requires.allowed c.count_elsewhere-left.result others c.in_ok-is_open.is_open reopened in
+    omega (arith, most, c.count_if.ensures)

@@ -1,4 +1,4 @@
-use Rattle.std.proofs.Common.{◌≡◌, ℕ, ◌<◌, List, [], refl, arith, drop, sym, subst}
+use Rattle.std.proofs.Common.{◌≡◌, List, [], refl, arith, drop, sym, subst}
 use Rattle.std.proofs.lemmas.List.{drop_all}
 use Rattle.pl_semantics.specs.declared.demand.Demand.{Demand}
 use Rattle.pl_bounds.specs.Afterwards.{moved_by, pull}
