@@ -14,23 +14,22 @@ use Rattle.pl_conflict.specs.Order.{has}
 use Rattle.pl_facts.specs.declared.goal.Goal.{Goal}
 use Rattle.pl_model.specs.declared.alternatives.Alternative.{Alternative}
 use Rattle.pl_plan.specs.declared.activity.Activity.{Activity}
-use Rattle.pl_plan.specs.Fitting.{alternatives_of}
 use Rattle.pl_plan.specs.declared.repair.RepairMove.{RepairMove}
 use Rattle.pl_plan.specs.declared.repair.RepairMove.TheVariants.{Add, Detail, Drop}
 use Rattle.pl_semantics.specs.declared.plan_state.PlanState.{PlanState}
+use Rattle.pl_plan.specs.Fitting.{alternatives_of}
+use Rattle.pl_semantics.specs.Activities.{at_start}
 use Rattle.pl_semantics.specs.PlanStates.{floor_of, goal_at, is_open, numbered}
 use Rattle.pl_semantics.specs.Starts.{spread, steps_from, stride_of, starting, floor_at, last_of, delete_root}
 use Rattle.pl_semantics.specs.Repairs.{for_goal, for_undetailed}
-use Rattle.pl_semantics.specs.Activities.{at_start}
-use Rattle.pl_semantics.specs.Moves.{alternatives_at, applied, is_proper, root_for}
+use Rattle.pl_semantics.specs.Moves.{is_proper, alternatives_at, root_for, applied}
 use Rattle.pl_semantics.specs.Candidates.{candidates_of, changes_nothing, is_worth, once_from, tried_for}
 use Rattle.pl_semantics.specs.Conflicts.{conflicts_of}
 use Rattle.pl_semantics.specs.Legal.{is_legal, has_repair, legal_for, left_after}
 use Rattle.pl_semantics.proofs.Sifting.{once_keeps}
 use Rattle.pl_moves.specs.Least.{least_known}
-use Rattle.pl_moves.specs.Runs.{CanBeMade}
-use Rattle.pl_bounds.proofs.Unchosen.{unchosen}
 use Rattle.pl_cand.proofs.Steps.{step_more}
+use Rattle.pl_bounds.proofs.Unchosen.{unchosen}
 use Rattle.pl_cand.specs.declared.proposal.Proposal.{Proposal}
 use Rattle.pl_choose.specs.Alone.{AreEnough}
 use Rattle.pl_choose.specs.Found.{IsAllowed}
@@ -184,19 +183,19 @@ first_allowed s k m first =
     let P : List RepairMove → Type 0 = λ ms. All (IsAllowed s) ms in
     All-head (IsAllowed s) m first.more (subst P first.is (all_allowed s k))
 
-some_left : (k : Conflict) (ks : List Conflict) → has k ks ≡ true → 1 ≤ length ks
-some_left k [] e = absurd (cc)
-some_left k (x ∷ ks) e = omega arith
+some_with : (k : Conflict) (ks : List Conflict) → has k ks ≡ true → 1 ≤ length ks
+some_with k [] e = absurd (cc)
+some_with k (x ∷ ks) e = omega arith
 
 -- what is known to be left is left
-known_left : (s : PlanState) (m : RepairMove) → CanBeMade s m → least_known s m ≤ left_after s m
+known_least : (s : PlanState) (m : RepairMove) → IsAllowed s m → least_known s m ≤ left_after s m
 unfolding left_after
-known_left s (Add kind start goal) can = by (eqb (length (alternatives_of (slice_get s.model.kinds kind))) 0) refl
+known_least s (Add kind start goal) can = by (eqb (length (alternatives_of (slice_get s.model.kinds kind))) 0) refl
   where
     by : (b : Bool) → eqb (length (alternatives_of (slice_get s.model.kinds kind))) 0 ≡ b → cond b 0 1 ≤ length (conflicts_of (applied s (Add kind start goal)))
     by true none = omega arith
-    by false some = some_left (at_start (root_for s kind start goal) Undetailed 0 0) (conflicts_of (applied s (Add kind start goal))) (unchosen s kind start goal can.allowed some)
-known_left s _ can = omega arith
+    by false some = some_with (at_start (root_for s kind start goal) Undetailed 0 0) (conflicts_of (applied s (Add kind start goal))) (unchosen s kind start goal can.allowed some)
+known_least s _ can = omega arith
 
 -- each leaves as many as are known to be left by the foremost
 leave_as_many : (s : PlanState) (k : Conflict) (m : RepairMove) → LeaveAsMany s m (legal_for s k) → All (λ other. least_known s m ≤ left_after s other) (legal_for s k)
@@ -204,7 +203,7 @@ leave_as_many s k m least = λ i d lt.
     let other : RepairMove = get_or (legal_for s k) i d in
     let can : IsAllowed s other = all_allowed s k i d lt in
     let known : least_known s m ≤ least_known s other = least i d lt can.proper in
-    let left : least_known s other ≤ left_after s other = known_left s other can in
+    let left : least_known s other ≤ left_after s other = known_least s other can in
     omega (arith, known, left)
 
 none_fewer : (s : PlanState) (m : RepairMove) (ms : List RepairMove) (n : ℕ) → left_after s m ≤ n → All (λ other. n ≤ left_after s other) ms → leaves_fewest s ms m ≡ true
