@@ -6,4 +6,3 @@ pub mod Proposing
 pub mod Between
 pub mod Instead
 pub mod Turning
-pub mod Promise

@@ -9,4 +9,3 @@ pub mod Aimed
 pub mod Stretches
 pub mod Stages
 pub mod Turns
-pub mod Promising

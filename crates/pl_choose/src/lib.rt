@@ -12,7 +12,6 @@ mod least;
 mod legality;
 mod picked;
 mod picking;
-mod promising;
 mod purpose;
 mod repairs;
 mod search;
