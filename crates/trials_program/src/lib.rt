@@ -16,6 +16,4 @@ mod program;
 #[cfg(test)]
 mod running;
 #[cfg(test)]
-mod tables;
-#[cfg(test)]
 mod worked;

@@ -11,6 +11,7 @@ mod journals;
 mod limits;
 mod messages;
 mod plans;
+mod prefaces;
 mod texts;
 mod until_and_halt;
 mod windows;
