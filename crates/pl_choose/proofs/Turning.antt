@@ -132,9 +132,9 @@ module _ (s : PlanState) (whole : IsWhole s) (stages : List Stage) (gone : List 
     turns c then_ = stood s whole gone one other (is_stage i one lt is) (is_stage j other lt_other is_other) (takes_out i one lt is) (takes_out j other lt_other is_other) b c made_one then_
 
 -- what the first takes out
-pub gone_first : (stages : List Stage) (t : Stage) → 0 < length stages → (get_or stages 0 t).trial.change.gone.items ≡ gone_in stages
-gone_first [] t lt = absurd (omega (arith, lt))
-gone_first (x ∷ stages) t lt = refl
+pub gone_first : (stages : List Stage) (t : Stage) → 0 < length stages → t ≡ get_or stages 0 t → t.trial.change.gone.items ≡ gone_in stages
+gone_first [] t lt is = absurd (omega (arith, lt))
+gone_first (x ∷ stages) t lt is = ap (λ (y : Stage). y.trial.change.gone.items) is
 
 pub some_stage : (stages : List Stage) (m : RepairMove) (ms : List RepairMove) → map move_of stages ≡ m ∷ ms → 0 < length stages
 some_stage [] m ms is = absurd (cc)
