@@ -6,3 +6,4 @@ pub mod Proposing
 pub mod Between
 pub mod Instead
 pub mod Turning
+pub mod Promise

@@ -9,3 +9,4 @@ pub mod Aimed
 pub mod Stretches
 pub mod Stages
 pub mod Turns
+pub mod Promising

@@ -3,14 +3,18 @@ ghost use Rattle.pl_cand.specs.Proposals.{IsProposal};
 ghost use Rattle.pl_choose.specs.Found.{AreFirst};
 ghost use Rattle.pl_choose.specs.Picked.{behind};
 ghost use Rattle.pl_choose.specs.Picks.{least_pick};
+ghost use Rattle.pl_choose.specs.Promising.{IsPromising};
 
+use crate::alone::{Alone, try_alone};
 use crate::fewest::fewest;
 use crate::picked::Picked;
-use crate::purpose::Purpose;
+use crate::promising::promising;
+use crate::purpose::{Purpose, enough_for};
 use crate::repairs::Repairs;
 use crate::search::first_repairs;
 use pl_board::Board;
 use pl_cand::{Chooser, Proposal, make};
+use pl_moves::least_left;
 use std::alloc::{AllocError, Global};
 
 /// Takes the first conflict that has a legal candidate, and of these the one that leaves the fewest conflicts, the first among
@@ -63,7 +67,8 @@ pub(crate) fn choose_fewest(
     }
 }
 
-pub(crate) fn choose_least(
+// Chosen among all legal candidates of the first conflict that has one.
+fn choose_among(
     alloc: Global,
     board: &mut Board,
     purpose: Purpose,
@@ -81,6 +86,69 @@ pub(crate) fn choose_least(
             board.spoil();
             Err(fault)
         }
+    }
+}
+
+// Behind the try of what is promising: it is chosen if it is known to be the best.
+fn choose_behind(
+    alloc: Global,
+    board: &mut Board,
+    proposal: Proposal,
+    purpose: Purpose,
+    is_best: bool,
+) -> Result<Option<Proposal>, AllocError>
+    requires unspoiled { board.old.spoiled ≡ false }
+    requires next_id { board.old.state.next_id ≤ 3999999000 }
+    requires best { is_best ≡ true → Some proposal ≡ least_pick board.old.state }
+    ensures picks { IfOk result (λ p. p ≡ least_pick board.old.state) }
+    ensures board { IfOk result (λ p. board.new ≡ behind purpose p board.old) }
+    ensures err { OnErr result (board.new.spoiled ≡ true) }
+{
+    if is_best {
+        settle(alloc, board, proposal, purpose)
+    } else {
+        choose_among(alloc, board, purpose)
+    }
+}
+
+// What is promising is chosen if it leaves no more conflicts than are known to be left by any.
+fn choose_promising(
+    alloc: Global,
+    board: &mut Board,
+    proposal: Proposal,
+    purpose: Purpose,
+) -> Result<Option<Proposal>, AllocError>
+    requires unspoiled { board.old.spoiled ≡ false }
+    requires next_id { board.old.state.next_id ≤ 3999999000 }
+    requires promising { IsPromising board.old.state proposal }
+    ensures picks { IfOk result (λ p. p ≡ least_pick board.old.state) }
+    ensures board { IfOk result (λ p. board.new ≡ behind purpose p board.old) }
+    ensures err { OnErr result (board.new.spoiled ≡ true) }
+{
+    let least = least_left(board.state(), &proposal.mv);
+    match try_alone(alloc, board, &proposal.mv, enough_for(purpose, Some(least)))? {
+        Alone::Made => Ok(Some(proposal)),
+        Alone::Undone { left } => {
+            choose_behind(alloc, board, proposal, purpose, left <= least as usize)
+        }
+    }
+}
+
+/// A proposal by the rule of [`Least`].
+pub(crate) fn choose_least(
+    alloc: Global,
+    board: &mut Board,
+    purpose: Purpose,
+) -> Result<Option<Proposal>, AllocError>
+    requires unspoiled { board.old.spoiled ≡ false }
+    requires next_id { board.old.state.next_id ≤ 3999999000 }
+    ensures picks { IfOk result (λ p. p ≡ least_pick board.old.state) }
+    ensures board { IfOk result (λ p. board.new ≡ behind purpose p board.old) }
+    ensures err { OnErr result (board.new.spoiled ≡ true) }
+{
+    match promising(board) {
+        Some(proposal) => choose_promising(alloc, board, proposal, purpose),
+        None => choose_among(alloc, board, purpose),
     }
 }
 

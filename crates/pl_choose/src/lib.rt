@@ -12,6 +12,7 @@ mod least;
 mod legality;
 mod picked;
 mod picking;
+mod promising;
 mod purpose;
 mod repairs;
 mod search;

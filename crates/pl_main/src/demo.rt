@@ -17,6 +17,7 @@ use pl_machine::Machine;
 use pl_model::Model;
 use pl_report::demo_input;
 use std::alloc::{AllocError, Global};
+use std::mem::forget;
 use std::sync::Arc;
 
 const TURNS: u32 = 50;
@@ -83,6 +84,8 @@ fn show_model<O: Sink>(
 {
     let machine = play_out(alloc, model, lines, src)?;
     let line = summary_line(alloc, goals, &machine)?;
+    // The run ends here: the memory of the machine goes with the process, not piece by piece.
+    forget(machine);
     put(out, line.as_slice())?;
     Ok(Outcome::Done)
 }

@@ -3,7 +3,7 @@ use Rattle.std.specs.Prelude.{option_and_then}
 use Rattle.pl_choose.specs.declared.repairs.Repairs.{Repairs}
 use Rattle.pl_choose.specs.Found.{AreFirst}
 use Rattle.pl_choose.specs.Picks.{fewest_for, least_pick}
-use Rattle.pl_choose.proofs.least.choose_least.Goals as goal
+use Rattle.pl_choose.proofs.least.choose_among.Goals as goal
 
 pub returns-in-Ok-None-clause-picks : goal.returns-in-Ok-None-clause-picks
 unfolding least_pick
