@@ -1,5 +1,5 @@
 //! A sink over memory with a fixed room, whose faults are planned.
-ghost use Rattle.std.specs.Prelude.{◌≡◌, ◌<◌, ◌≤◌, [], length, Some, IfOk};
+ghost use Rattle.std.specs.Prelude.{◌≡◌, ◌<◌, ◌≤◌, [], true, length, Some, IfOk};
 
 use crate::errors::Failed;
 use crate::traits::Sink;
@@ -70,6 +70,12 @@ impl Sink for MemSink {
     ghost held = { λ sink. Some sink.held };
 
     ghost faults = { λ sink. sink.faults };
+
+    fn keeps(&self) -> bool
+        ensures { result ≡ true }
+    {
+        true
+    }
 
     fn write(&mut self, piece: &[u8]) -> Result<usize, Failed>
         requires { 0 < length piece.now }

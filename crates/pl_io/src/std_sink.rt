@@ -1,5 +1,5 @@
 //! std's writers as sinks.
-ghost use Rattle.std.specs.Prelude.{◌≡◌, ◌<◌, ◌≤◌, length, None, IfOk};
+ghost use Rattle.std.specs.Prelude.{◌≡◌, ◌<◌, ◌≤◌, true, length, None, IfOk};
 ghost use Rattle.std.specs.Io.KnownBytes.{WriteAppends};
 ghost use Rattle.pl_io.specs.Faults.{HasCause};
 
@@ -29,6 +29,12 @@ impl<W: Write> Sink for StdSink<W> {
     ghost held = { λ _. None };
 
     ghost faults = { λ sink. sink.faults };
+
+    fn keeps(&self) -> bool
+        ensures { result ≡ true }
+    {
+        true
+    }
 
     fn write(&mut self, piece: &[u8]) -> Result<usize, Failed>
         requires { 0 < length piece.now }
