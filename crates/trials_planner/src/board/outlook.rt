@@ -25,15 +25,52 @@ add 0 50;add 1 100 => shift 2 70 => [0]
 add 0 50;add 1 100 => shift 2 130 => [0]
 add 0 50;add 1 100 => shift 2 131 => [1]";
 
+const ELSEWHERE: &str = "horizon 300 lead 30 kind warm_up { duration 20 }
+kind image { duration 40 link start warm_up end -60 0 }
+kind talk { duration 5 }";
+
+/// Images at 100 and at 200 lack their warm-up, and lack it still where another activity comes, moves or goes. A warm-up that comes or
+/// moves can mend the link.
+const LACKING: &str = "add 1 100;add 2 10 => add 2 30 => [1]
+add 1 100;add 2 10 => shift 2 50 => [1]
+add 1 100;add 2 10 => delete 2 => [1]
+add 1 100;add 1 200;add 2 10 => delete 2 => [2]
+add 1 100;add 1 200 => delete 2 => [1]
+add 1 100;add 1 200 => shift 2 210 => [2]
+add 1 100 => add 1 200 => [2]
+add 1 100 => delete 1 => [0]
+add 1 100;add 2 10 => add 0 60 => [0]
+add 0 10;add 1 100 => shift 1 60 => [0]
+add 0 10;add 1 100 => shift 1 20 => [0]
+add 0 10;add 1 100 => shift 2 40 => [0]";
+
+const ORDERED: &str = "horizon 100 lead 30 kind step { duration 5 }
+kind scan { duration 20 alternative { slot a step slot b step order a end b start 0 3 order parent start a start 0 2 } }
+kind talk { duration 5 }";
+
+/// A scan 1 at 10 with its steps 2, from 10 to 15, and 3, from 15 on. The second begins at most 3 moments behind the end of the first,
+/// which begins at most 2 behind the scan. What breaks an order leaves it broken; talk elsewhere leaves what is broken.
+const BROKEN: &str = "add 1 10;detail 1 0 => shift 3 18 => [0]
+add 1 10;detail 1 0 => shift 3 19 => [1]
+add 1 10;detail 1 0 => shift 3 14 => [1]
+add 1 10;detail 1 0 => shift 2 8 => [1]
+add 1 10;detail 1 0 => shift 2 13 => [2]
+add 1 10;detail 1 0;shift 3 19 => shift 2 12 => [0]
+add 1 10;detail 1 0;shift 3 19 => shift 2 13 => [1]
+add 1 10;detail 1 0;shift 3 19 => add 2 60 => [1]
+add 1 10;detail 1 0;shift 3 19 => delete 1 => [0]";
+
 /// The warm-up ends 30 moments before the image.
 const PARTNERS: &str = "add 0 50;add 1 100 => 2 30 => Some(140) true
 add 0 50;add 1 100 => 2 29 => Some(140) false
 add 0 50;add 1 100 => 3 30 => none";
 
-const TABLES: [Table; 4] = [
+const TABLES: [Table; 6] = [
     (Asked::Least, LEVEL, BELOW),
     (Asked::Least, CAPACITY, ABOVE),
     (Asked::Least, LINKED, SHIFTED),
+    (Asked::Least, ELSEWHERE, LACKING),
+    (Asked::Least, ORDERED, BROKEN),
     (Asked::Partner, LINKED, PARTNERS),
 ];
 

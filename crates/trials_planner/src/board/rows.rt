@@ -15,9 +15,11 @@ const LEVEL: &str = "horizon 100 lead 30 level bat 0 100 20
 kind drain { duration 10 lower bat 30 at end }
 kind draw { duration 5 lower bat 10 at start }";
 
-/// A level falls at the horizon; one is told at the present.
-const FOLLOWED: &str = "add 0 90 => level 0 99 = 20 =>
-add 1 50;add 1 51;commit 60;tick 50;tele 0 40 => level 0 50 = 40;level 0 51 = 30 =>";
+/// A level falls at the horizon; one is told at the present. The first moment at which one leaves two values, or the last that is asked
+/// for.
+const FOLLOWED: &str = "add 0 90 => level 0 99 = 20;until 0 0 100 20 20 = 100 =>
+add 1 50;add 0 70 => until 0 0 100 15 100 = 50;until 0 0 50 15 100 = 50;until 0 0 49 15 100 = 49;until 0 60 90 15 100 = 60;until 0 50 80 10 100 = 80;until 0 50 100 10 100 = 80;until 0 0 100 0 20 = 80;until 0 0 100 0 19 = 0;until 0 50 100 0 19 = 80 => 80 low 0 0 80 100
+add 1 50;add 1 51;commit 60;tick 50;tele 0 40 => level 0 50 = 40;level 0 51 = 30;until 0 50 100 35 100 = 51 =>";
 
 const LEAST: &str = "horizon 100 lead 30 level bat 5 100 20";
 

@@ -61,6 +61,20 @@ fn level_at(board: &Board, line: u32, t: u32) -> Option<i64> {
     }
 }
 
+/// From a moment on, the first before another at which a level is outside of two values, or that other.
+fn level_until(board: &Board, line: u32, from: u32, rest: &str) -> Option<i64> {
+    let mut rest = rest;
+    let to = number(&mut rest);
+    let least = i64::from(number(&mut rest));
+    let most = i64::from(number(&mut rest));
+    let is_before = from <= to && to <= board.model().horizon;
+    if is_ahead(board, from) && is_before && is_level(board.model(), line) {
+        Some(i64::from(board.level_until(line, from, to, least, most)))
+    } else {
+        None
+    }
+}
+
 fn state_at(board: &Board, line: u32, t: u32) -> Option<i64> {
     if is_ahead(board, t) && is_state(board.model(), line) {
         Some(i64::from(board.state_at(line, t)))
@@ -69,7 +83,7 @@ fn state_at(board: &Board, line: u32, t: u32) -> Option<i64> {
     }
 }
 
-/// The value of a line, as `level 0 50`.
+/// The value of a line, as `level 0 50`, or how long a level stays within values, as `until 0 50 100 15 90`.
 fn value(board: &Board, line: &str) -> Option<i64> {
     let mut rest = line;
     let name = word(&mut rest);
@@ -78,6 +92,7 @@ fn value(board: &Board, line: &str) -> Option<i64> {
     match name {
         "use" => use_at(board, timeline, t),
         "level" => level_at(board, timeline, t),
+        "until" => level_until(board, timeline, t, rest),
         _ => state_at(board, timeline, t),
     }
 }
