@@ -9,7 +9,8 @@ const BELOW: &str = "add 0 10;goal 1 40 60 must => shift 1 30 => [2]
 add 0 10;goal 1 40 60 must => delete 1 => [1]";
 
 const CAPACITY: &str = "horizon 100 lead 30 capacity cam 10
-kind short { duration 10 use cam 6 }";
+kind short { duration 10 use cam 6 }
+kind long { duration 50 use cam 6 }";
 
 /// Uses that stay above the most, and that do not.
 const ABOVE: &str = "add 0 5;add 0 10 => shift 2 8 => [1]
@@ -60,17 +61,38 @@ add 1 10;detail 1 0;shift 3 19 => shift 2 13 => [1]
 add 1 10;detail 1 0;shift 3 19 => add 2 60 => [1]
 add 1 10;detail 1 0;shift 3 19 => delete 1 => [0]";
 
+const DIPS: &str = "horizon 300 lead 30 level bat 0 110 50
+kind drain { duration 10 lower bat 30 at end }
+kind dip { duration 10 lower bat 25 at start raise bat 25 at end }
+kind fill { duration 10 raise bat 40 at end }";
+
+/// Limits that nothing passes yet. A level of 50 is 25 from 50 to 60 and from 100 to 110, so 30 less bring it below its least in as many
+/// of these dips as come behind them. In the last two rows it is 90 from 110 on, but for a dip from 150 to 160.
+const REACHED: &str = "add 1 50;add 1 100 => add 0 10 => [2]
+add 1 50;add 1 100 => add 0 55 => [1]
+add 1 50;add 1 100 => add 0 105 => [0]
+add 1 50;add 1 100 => add 1 95 => [0]
+add 2 100;add 1 150 => add 2 50 => [2]
+add 2 100;add 1 150 => add 2 149 => [1]";
+
+/// A use over two others that do not overlap, over the second, and behind both.
+const OVERLAPPED: &str = "add 0 5;add 0 40 => add 1 2 => [2]
+add 0 5;add 0 40 => add 1 15 => [1]
+add 0 5;add 0 40 => add 1 50 => [0]";
+
 /// The warm-up ends 30 moments before the image.
 const PARTNERS: &str = "add 0 50;add 1 100 => 2 30 => Some(140) true
 add 0 50;add 1 100 => 2 29 => Some(140) false
 add 0 50;add 1 100 => 3 30 => none";
 
-const TABLES: [Table; 6] = [
+const TABLES: [Table; 8] = [
     (Asked::Least, LEVEL, BELOW),
     (Asked::Least, CAPACITY, ABOVE),
     (Asked::Least, LINKED, SHIFTED),
     (Asked::Least, ELSEWHERE, LACKING),
     (Asked::Least, ORDERED, BROKEN),
+    (Asked::Least, DIPS, REACHED),
+    (Asked::Least, CAPACITY, OVERLAPPED),
     (Asked::Partner, LINKED, PARTNERS),
 ];
 
