@@ -45,11 +45,11 @@ add 0 10;add 1 100 => shift 1 60 => [0]
 add 0 10;add 1 100 => shift 1 20 => [0]
 add 0 10;add 1 100 => shift 2 40 => [0]";
 
-const ORDERED: &str = "horizon 100 lead 30 kind step { duration 5 }
-kind scan { duration 20 alternative { slot a step slot b step order a end b start 0 3 order parent start a start 0 2 } }
+const ORDERED: &str = "horizon 100 lead 30 kind shot { duration 5 }
+kind scan { duration 20 alternative { slot a shot slot b shot order a end b start 0 3 order parent start a start 0 2 } }
 kind talk { duration 5 }";
 
-/// A scan 1 at 10 with its steps 2, from 10 to 15, and 3, from 15 on. The second begins at most 3 moments behind the end of the first,
+/// A scan 1 at 10 with its shots 2, from 10 to 15, and 3, from 15 on. The second begins at most 3 moments behind the end of the first,
 /// which begins at most 2 behind the scan. What breaks an order leaves it broken; talk elsewhere leaves what is broken.
 const BROKEN: &str = "add 1 10;detail 1 0 => shift 3 18 => [0]
 add 1 10;detail 1 0 => shift 3 19 => [1]
