@@ -50,7 +50,7 @@ kind scan { duration 20 alternative { slot a shot slot b shot order a end b star
 kind talk { duration 5 }";
 
 /// A scan 1 at 10 with its shots 2, from 10 to 15, and 3, from 15 on. The second begins at most 3 moments behind the end of the first,
-/// which begins at most 2 behind the scan. What breaks an order leaves it broken; talk elsewhere leaves what is broken.
+/// which begins at most 2 behind the scan. A shot that moves alone breaks one order or both; talk elsewhere mends none.
 const BROKEN: &str = "add 1 10;detail 1 0 => shift 3 18 => [0]
 add 1 10;detail 1 0 => shift 3 19 => [1]
 add 1 10;detail 1 0 => shift 3 14 => [1]
