@@ -80,29 +80,12 @@ const OVERLAPPED: &str = "add 0 5;add 0 40 => add 1 2 => [2]
 add 0 5;add 0 40 => add 1 15 => [1]
 add 0 5;add 0 40 => add 1 50 => [0]";
 
-const MODES: &str = "horizon 100 lead 30 state camera { off on } start off any
-kind turn_on { duration 5 set camera on at start }
-kind image { duration 10 must camera on }
-kind talk { duration 5 }";
-
-/// Images for which the camera is off, wherever they come or move to, and those that stand elsewhere; and images for which it is on.
-const UNMET: &str = " => add 1 20 => [1]
-add 1 20 => shift 1 50 => [1]
-add 0 40;add 1 50 => shift 1 20 => [1]
-add 0 40;add 1 20 => shift 1 50 => [0]
-add 1 20 => add 0 10 => [0]
-add 1 20;add 2 60 => add 2 80 => [1]
-add 1 20;add 2 60 => shift 2 80 => [1]
-add 1 20;add 2 60 => delete 2 => [1]
-add 1 20;add 1 50;add 2 70 => delete 2 => [2]
-add 0 40;add 1 50 => delete 1 => [0]";
-
 /// The warm-up ends 30 moments before the image.
 const PARTNERS: &str = "add 0 50;add 1 100 => 2 30 => Some(140) true
 add 0 50;add 1 100 => 2 29 => Some(140) false
 add 0 50;add 1 100 => 3 30 => none";
 
-const TABLES: [Table; 9] = [
+const TABLES: [Table; 8] = [
     (Asked::Least, LEVEL, BELOW),
     (Asked::Least, CAPACITY, ABOVE),
     (Asked::Least, LINKED, SHIFTED),
@@ -110,7 +93,6 @@ const TABLES: [Table; 9] = [
     (Asked::Least, ORDERED, BROKEN),
     (Asked::Least, DIPS, REACHED),
     (Asked::Least, CAPACITY, OVERLAPPED),
-    (Asked::Least, MODES, UNMET),
     (Asked::Partner, LINKED, PARTNERS),
 ];
 
