@@ -1,6 +1,6 @@
 //! The moments at which a level comes past a bar, and at which it comes back. A bar stands for a limit that is nearer or further by
 //! what a move adds to the level.
-ghost use Rattle.std.specs.Prelude.{◌≡◌, ◌≤◌, false};
+ghost use Rattle.std.specs.Prelude.{◌≡◌, ◌≤◌, false, pos, ◌+ℤ◌, ◌-ℤ◌};
 ghost use Rattle.pl_points.specs.Sums.{IsSmall};
 ghost use Rattle.pl_bounds.specs.Looks.{IsLimited};
 

@@ -29,6 +29,7 @@ mod unset;
 mod until;
 mod widening;
 mod window;
+mod worse;
 mod worsening;
 
 pub use bounds::least_of_each;

@@ -1,10 +1,10 @@
 //! Looks at a timeline where it is past its limit, and a moment before and behind.
 ghost use Rattle.std.specs.Prelude.{◌≡◌, false, IfOk, OnOk};
 ghost use Rattle.pl_bounds.specs.Looks.{IsLimited, AreLooksAt};
-ghost use Rattle.pl_bounds.specs.Sides.{code_of};
+ghost use Rattle.pl_bounds.specs.Sides.{code_of, value_at};
 
 use crate::crossing::{first_back, first_past};
-use crate::outside::{Look, Side};
+use crate::outside::{Look, Outside, Side};
 use crate::reading::value_at;
 use pl_board::Board;
 use pl_conflict::{Code, Conflict};
