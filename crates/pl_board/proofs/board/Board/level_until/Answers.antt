@@ -1,5 +1,9 @@
 use Rattle.std.proofs.Common.{◌≡◌, ℕ, ◌∙◌, true, false, sym, ap}
+use mir.Val.{to_z, of_z}
+use mir.Syntax.{w64}
+use Rattle.std.proofs.lemmas.Int.{to_z-of_z}
 use Rattle.pl_points.specs.Points.{is_out}
+use Rattle.pl_points.proofs.Strolls.{same_bounds}
 use Rattle.pl_update.proofs.AboutTimelines.StandingReadings.{level_readable_in, level_read}
 use Rattle.pl_update.specs.Timelines.Readings.{level_of}
 use Rattle.pl_semantics.specs.declared.plan_state.PlanState.{PlanState}
@@ -20,7 +24,9 @@ returns-clause-within c = λ unspoiled t low lt.
     let kept = c.watched.ensures.watched unspoiled in
     let is : level_of t (slice_get w.lines c.args.line) ≡ level_at c.args.self.now.state c.args.line t =
     level_read w.state w.lines kept.timelines c.args.line t (rw c.watched.ensures.state (c.requires.level unspoiled)) ∙ ap (λ (s : PlanState). level_at s c.args.line t) c.watched.ensures.state in
-    ap (is_out c.args.least c.args.most) (sym is) ∙ c.level_until.ensures.within t low lt
+    let least = to_z-of_z w64 c.args.least c.ranges.least in
+    let most = to_z-of_z w64 c.args.most c.ranges.most in
+    ap (is_out c.args.least c.args.most) (sym is) ∙ same_bounds c.args.least c.args.most (to_z w64 (of_z w64 c.args.least)) (to_z w64 (of_z w64 c.args.most)) (level_of t (slice_get w.lines c.args.line)) false (sym least) (sym most) (c.level_until.ensures.within t low lt)
 
 pub returns-clause-leaves : goal.returns-clause-leaves
 returns-clause-leaves c = λ unspoiled lt.
@@ -29,4 +35,6 @@ returns-clause-leaves c = λ unspoiled lt.
     let kept = c.watched.ensures.watched unspoiled in
     let is : level_of t (slice_get w.lines c.args.line) ≡ level_at c.args.self.now.state c.args.line t =
     level_read w.state w.lines kept.timelines c.args.line t (rw c.watched.ensures.state (c.requires.level unspoiled)) ∙ ap (λ (s : PlanState). level_at s c.args.line t) c.watched.ensures.state in
-    ap (is_out c.args.least c.args.most) (sym is) ∙ c.level_until.ensures.leaves lt
+    let least = to_z-of_z w64 c.args.least c.ranges.least in
+    let most = to_z-of_z w64 c.args.most c.ranges.most in
+    ap (is_out c.args.least c.args.most) (sym is) ∙ same_bounds c.args.least c.args.most (to_z w64 (of_z w64 c.args.least)) (to_z w64 (of_z w64 c.args.most)) (level_of t (slice_get w.lines c.args.line)) true (sym least) (sym most) (c.level_until.ensures.leaves lt)
