@@ -1,6 +1,5 @@
 //! Two lists of looks at one timeline as one.
-ghost use Rattle.std.specs.Prelude.{◌≡◌, ◌≤◌, ◌<◌, ◌⊎◌, IfOk, OnOk, IsTrue, length};
-ghost use Rattle.pl_semantics.specs.Whole.{IsWhole};
+ghost use Rattle.std.specs.Prelude.{◌≡◌, ◌<◌, ◌⊎◌, true, false, IfOk, length};
 ghost use Rattle.pl_bounds.specs.Looks.{AreLooksAt};
 ghost use Rattle.pl_bounds.specs.Sides.{AreRight};
 

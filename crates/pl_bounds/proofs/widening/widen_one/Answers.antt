@@ -1,14 +1,13 @@
-use Rattle.std.proofs.Common.{◌≡◌, List, get_or, set, sym, ap, ◌∙◌, subst}
-use Rattle.std.specs.Prelude.{All}
+use Rattle.std.proofs.Common.{◌≡◌, get_or, ap, ◌∙◌}
 use Rattle.std.proofs.lemmas.List.{get_or_default}
 use Rattle.std.proofs.lemmas.List.Elements.{All-set}
-use Rattle.pl_bounds.specs.Sides.{AreDifferent, IsOutsideOf}
+use Rattle.pl_bounds.specs.Sides.{IsOutsideOf}
 use Rattle.pl_bounds.specs.declared.outside.Outside.{Outside}
 use Rattle.pl_bounds.proofs.Apart.{different_set}
 use Rattle.pl_bounds.proofs.widening.widen_one.Goals as goal
 
 pub returns-clause-of_plan : goal.returns-clause-of_plan
-returns-clause-of_plan c = All-set (IsOutsideOf c.args.board.now.state) c.args.all.now.items c.args.place c.widen.new.self c.requires.of_plan c.in_ok-widen.ensures.of_plan
+returns-clause-of_plan c = All-set (IsOutsideOf c.args.board.now.state) c.args.all.now.items c.args.place c.widen.new.self c.in_ok-widen.ensures.of_plan c.requires.of_plan
 
 pub returns-clause-different : goal.returns-clause-different
 returns-clause-different c =
