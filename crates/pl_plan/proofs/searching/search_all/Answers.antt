@@ -2,10 +2,10 @@
 use Rattle.std.proofs.Common.{rules}
 use Rattle.std.proofs.lemmas.List.Sorted.{answers_always}
 use Rattle.pl_plan.proofs.Ids.{searched}
-use Rattle.pl_plan.proofs.plan.Plan.search.Goals as goal
+use Rattle.pl_plan.proofs.searching.search_all.Goals as goal
 
 pub returns : goal.returns
 returns c =
     let facts = c.binary_search_by_key.ensures in
     let by_key = facts.position (λ a. a.id) (answers_always _ _ _ (λ f a r g called. search rules)) in
-    rw (← c.self.view_is, ← c.deref.ensures.value) (searched _ (rw c.deref.ensures.value c.self.invariant.0.rising) c.args.id _ facts.bound by_key)
+    searched c.args.activities.now c.requires.rising c.args.id _ facts.bound by_key
