@@ -24,8 +24,8 @@ abbrev pub AsksIn : World → Type 0
 AsksIn w = (w.done ≡ false) × (is_repairing w ≡ true) × (plain_reason_of w ≡ None)
 
 -- fewer entries than the options allow
-abbrev pub HasRoom : List Noted → Type 0
-HasRoom items = InWorld items (λ w. length (entries_in items) < w.options.entries)
+abbrev pub HasRoomIn : List Noted → Type 0
+HasRoomIn items = InWorld items (λ w. length (entries_in items) < w.options.entries)
 
 -- A planner looked at a front of this history, at least so long, and its chooser was to be asked there, since what it proposes could still be made.
 pub record HasLooked (low : ℕ) (items : List Noted) : Type 0 where
@@ -34,7 +34,7 @@ pub record HasLooked (low : ℕ) (items : List Noted) : Type 0 where
   pub late : low ≤ length front
   pub running : stop_in front ≡ false
   pub asks : InWorld front AsksIn
-  pub room : HasRoom front
+  pub room : HasRoomIn front
 
 -- The chooser was asked there, and proposed this.
 pub record IsSight (g : Lcg) (low : ℕ) (items : List Noted) (p : Option Proposal) : Type 0 where
