@@ -27,7 +27,8 @@ AsksIn w = (w.done ≡ false) × (is_repairing w ≡ true) × (plain_reason_of w
 abbrev pub HasRoomIn : List Noted → Type 0
 HasRoomIn items = InWorld items (λ w. length (entries_in items) < w.options.entries)
 
--- A planner looked at a front of this history, at least so long, and its chooser was to be asked there, since what it proposes could still be made.
+-- A planner looked at a front of this history, at least so long, and its chooser was to be asked there, since what it proposes
+-- could still be made.
 pub record HasLooked (low : ℕ) (items : List Noted) : Type 0 where
   pub front : List Noted
   pub on : IsPrefix front items
@@ -106,7 +107,8 @@ IdlesBy r low seen (mid ∷ mids) r2 = IsKept r low seen mid × IdlesBy mid low 
 abbrev pub Idles : Role → ℕ → List Noted → Role → Type 0
 Idles r low seen r2 = (mids : List Role) × IdlesBy r low seen mids r2
 
--- A role that made nothing since memory was wanting: its chooser may have been asked once behind a look, and again where it proposed nothing.
+-- A role that made nothing since memory was wanting: its chooser may have been asked once behind a look, and again where it
+-- proposed nothing.
 abbrev pub IsAskedAtMost : Role → ℕ → List Noted → Role → Type 0
 IsAskedAtMost (Planner g) low seen (Planner g2) =
     (g2 ≡ g) ⊎ (HasLooked low seen × (g2 ≡ seeded_after g))

@@ -13,8 +13,8 @@ abbrev pub gone_in : List Stage → List ℕ
 gone_in [] = []
 gone_in (t ∷ more) = t.trial.change.gone.items
 
--- All that is needed of these moves has been tried: one of them is made, and the best so far is the first of all that leaves the fewest
--- conflicts.
+-- All that is needed of these moves has been tried: one of them is made, and the best so far is the first of all that leaves the
+-- fewest conflicts.
 pub record AreTried (s : PlanState) (moves : List RepairMove) (t : Progress) (now : Standing) : Type 0 where
   pub within : t.at < length moves
   pub made : (d : RepairMove) → now ≡ after (applied s (slice_index_or moves t.at d))

@@ -16,8 +16,8 @@ abbrev pub enough_for : Purpose → Option ℕ → Option ℕ
 enough_for Propose most = None
 enough_for Mend most = most
 
--- Given: what a move is chosen for, what holds of the chosen move, the board before, the choice, and the board then. A move stays made
--- only if it is chosen to be made.
+-- Given: what a move is chosen for, what holds of the chosen move, the board before, the choice, and the board then. A move stays
+-- made only if it is chosen to be made.
 abbrev pub IsPicked : Purpose → (RepairMove → Type 0) → Standing → Picked → Standing → Type 0
 IsPicked why P before (Made m) now = (why ≡ Mend) × P m × (now ≡ after (applied before.state m))
 IsPicked why P before (Found m) now = P m × (now ≡ before)

@@ -43,8 +43,8 @@ picked_by word all = slice_get all (word % length all)
 abbrev pub picked_for : PlanState → ℕ → Conflict → Option Proposal
 picked_for s word k = option_map (proposal k) (picked_by word (legal_for s k))
 
--- of the conflicts that have a legal candidate the one that a random word picks, with that one of its legal candidates that another word
--- picks
+-- of the conflicts that have a legal candidate the one that a random word picks, with that one of its legal candidates that another
+-- word picks
 unfoldable pub random_pick : PlanState → ℕ → ℕ → Option Proposal
 random_pick s word other = option_and_then (picked_for s other) (picked_by word (repairable s))
 

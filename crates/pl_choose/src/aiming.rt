@@ -1,5 +1,5 @@
-//! The aim is that one of some moves that by its bound may leave the fewest conflicts. It is tried before the others. Once it is counted
-//! how many conflicts it leaves, no move is tried whose bound is higher than this.
+//! The aim is that one of some moves that by its bound may leave the fewest conflicts. It is tried before the others. Once it is
+//! counted how many conflicts it leaves, no move is tried whose bound is higher than this.
 ghost use Rattle.std.specs.Prelude.{◌≡◌, ◌≤◌, ◌<◌, ◌+◌, ◌^◌, true, false, All, IfOk, IfSome, OnErr, take, drop, length};
 ghost use Rattle.pl_semantics.specs.Legal.{left_after};
 ghost use Rattle.pl_bounds.specs.Bounds.{AreLeast};
@@ -43,9 +43,9 @@ fn above(best: Best, aim: &RepairMove, left: usize) -> Best
     best
 }
 
-// If the move at this place leaves no more conflicts than the result, it is the best of all. For the result is lower than what the best
-// so far leaves and than the bound of each move before it, and no higher than the bound of each move after it. None if there is no
-// such number.
+// If the move at this place leaves no more conflicts than the result, it is the best of all. For the result is lower than what the
+// best so far leaves and than the bound of each move before it, and no higher than the bound of each move after it. None if there
+// is no such number.
 fn enough_at(best: Best, bounds: &[u32], at: usize) -> Option<u32>
     requires { at < length bounds.now }
     ensures best { IfSome result (λ n. n < best.left) }
@@ -60,7 +60,8 @@ fn enough_at(best: Best, bounds: &[u32], at: usize) -> Option<u32>
     }
 }
 
-// Tries the aim. It stays made if it is then known to be the best of all. Otherwise it is taken back, and the moves before it are tried.
+// Tries the aim. It stays made if it is then known to be the best of all. Otherwise it is taken back, and the moves before it are
+// tried.
 fn try_aim(
     alloc: Global,
     board: &mut Board,
@@ -94,8 +95,8 @@ fn try_aim(
     }
 }
 
-/// The best of all: of the best so far and of these moves, of each of which the bound is given. `aims` is how many aims are tried before
-/// the moves that are then left are tried in their order.
+/// The best of all: of the best so far and of these moves, of each of which the bound is given. `aims` is how many aims are tried
+/// before the moves that are then left are tried in their order.
 pub(crate) fn pick_by_aims(
     alloc: Global,
     board: &mut Board,

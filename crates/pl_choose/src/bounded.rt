@@ -61,8 +61,8 @@ pub(crate) fn lowest_of(most: u32, bounds: &[u32]) -> u32
     lowest
 }
 
-/// The best of a first move and of these moves, of each of which the bound is given. They are tried in their order; one that its bound
-/// shows to be no better than the best so far is not tried.
+/// The best of a first move and of these moves, of each of which the bound is given. They are tried in their order; one that its
+/// bound shows to be no better than the best so far is not tried.
 pub(crate) fn best_by_bounds(
     alloc: Global,
     board: &mut Board,

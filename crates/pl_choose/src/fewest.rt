@@ -1,5 +1,5 @@
-//! The move that leaves the fewest conflicts. To find it, moves are made on the board and undone. The last one made may stay made if it
-//! is the best.
+//! The move that leaves the fewest conflicts. To find it, moves are made on the board and undone. The last one made may stay made
+//! if it is the best.
 ghost use Rattle.std.specs.Prelude.{◌≡◌, ◌<◌, ◌≤◌, ◌∷◌, true, false, All, map, Some, IfOk, OnErr};
 ghost use Rattle.pl_semantics.specs.Legal.{left_after};
 ghost use Rattle.pl_moves.specs.Changes.{IsOfActivities};
@@ -13,10 +13,10 @@ use crate::aiming::pick_by_aims;
 use crate::alone::{Alone, try_alone};
 use crate::best::Best;
 use crate::bounded::{bounds_of, lowest_of};
+use crate::in_turn::pick_in_turn;
 use crate::picked::Picked;
 use crate::purpose::{Purpose, enough_for};
 use crate::stages::{Stage, are_of_one, stages_of, take_out};
-use crate::in_turn::pick_in_turn;
 use pl_board::Board;
 use pl_moves::least_left;
 use pl_plan::RepairMove;
@@ -71,8 +71,8 @@ fn least_alone(board: &Board, moves: &[RepairMove]) -> u32
     least
 }
 
-// The best of the first and the others, given a number of conflicts that each of the others leaves at least. If the first leaves more,
-// the bound of each of the others is worked out.
+// The best of the first and the others, given a number of conflicts that each of the others leaves at least. If the first leaves
+// more, the bound of each of the others is worked out.
 fn pick_of_few(
     alloc: Global,
     board: &mut Board,
@@ -144,8 +144,8 @@ fn pick_by_bounds(
     pick_of_many(alloc, board, first, rest, purpose)
 }
 
-// The best of the first and the others, given what each changes. If all take out the same activities, each is made in place of the one
-// before.
+// The best of the first and the others, given what each changes. If all take out the same activities, each is made in place of the
+// one before.
 fn pick_by_stages(
     alloc: Global,
     board: &mut Board,

@@ -62,7 +62,12 @@ pub(crate) fn choose_fewest(
     let conflict = repairs.conflict;
     match fewest(alloc, board, repairs.moves.as_slice(), purpose)? {
         Some(Picked::Made(mv)) => Ok(Some(Proposal { conflict, mv })),
-        Some(Picked::Found(mv)) => make_if_mending(alloc, board, Proposal { conflict, mv }, purpose),
+        Some(Picked::Found(mv)) => make_if_mending(
+            alloc,
+            board,
+            Proposal { conflict, mv },
+            purpose,
+        ),
         None => Ok(None),
     }
 }

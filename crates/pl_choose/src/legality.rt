@@ -53,9 +53,9 @@ fn add_legal(
     Ok(())
 }
 
-// Takes the first move and those right after it that place the same activities at other starts, and appends those of them that are legal.
-// Of many that come after the first, the first and the last of them, if both are legal, tell of those that start between them. Answers
-// how many moves were taken.
+// Takes the first move and those right after it that place the same activities at other starts, and appends those of them that are
+// legal. Of many that come after the first, the first and the last of them, if both are legal, tell of those that start between
+// them. Answers how many moves were taken.
 #[tactic(auto, using(crate::proofs::Finding::run_kept))]
 fn add_run(
     board: &Board,

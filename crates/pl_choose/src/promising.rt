@@ -1,5 +1,5 @@
-//! The first move that is tried for a conflict that stands alone. If it leaves no more conflicts than each of the others is known to leave
-//! at least, none of these is better, and they are not listed.
+//! The first move that is tried for a conflict that stands alone. If it leaves no more conflicts than each of the others is known
+//! to leave at least, none of these is better, and they are not listed.
 ghost use Rattle.std.specs.Prelude.{◌≡◌, true, false, Some, IfSome};
 ghost use Rattle.pl_plan.specs.declared.repair.RepairMove.TheVariants.{Add};
 ghost use Rattle.pl_semantics.specs.Whole.{IsWhole};
@@ -127,8 +127,8 @@ fn first_for_undetailed(state: &PlanState, id: u32) -> Option<RepairMove>
     }
 }
 
-// The first move that is tried for an open goal, or for an activity that lacks an alternative, if it is likely to leave no conflict. No
-// list is made.
+// The first move that is tried for an open goal, or for an activity that lacks an alternative, if it is likely to leave no
+// conflict. No list is made.
 fn first_tried(state: &PlanState, k: &Conflict) -> Option<RepairMove>
     requires { IsWhole state.now }
     ensures foremost { IfSome result (λ m. IsForemost state.now m (tried_for state.now k.now k.now.code)) }

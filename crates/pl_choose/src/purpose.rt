@@ -10,8 +10,8 @@ pub(crate) enum Purpose {
     Mend,
 }
 
-/// How many conflicts a move may leave and stay made, given how many it may leave and be known as the best. If it is only to be proposed,
-/// it does not stay made, however few it leaves.
+/// How many conflicts a move may leave and stay made, given how many it may leave and be known as the best. If it is only to be
+/// proposed, it does not stay made, however few it leaves.
 pub(crate) fn enough_for(purpose: Purpose, most: Option<u32>) -> Option<u32>
     ensures { result ≡ enough_for purpose most }
 {

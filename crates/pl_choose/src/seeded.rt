@@ -19,8 +19,8 @@ use rand_pcg::Lcg64Xsh32;
 use std::alloc::{AllocError, Global};
 use std::marker::Model;
 
-/// Draws a random word for each choice. For one word in eight it chooses by chance, else as [`crate::Least`] does. Contracts see it as its
-/// generator.
+/// Draws a random word for each choice. For one word in eight it chooses by chance, else as [`crate::Least`] does. Contracts see it
+/// as its generator.
 #[derive(Drop)]
 pub struct Seeded {
     generator: Lcg64Xsh32,
@@ -67,7 +67,8 @@ impl Seeded {
         Draw::AtRandom { conflict, repair }
     }
 
-    /// Draws, and makes the repair that is chosen. `first` is the first conflict that has a legal candidate, with its legal candidates.
+    /// Draws, and makes the repair that is chosen. `first` is the first conflict that has a legal candidate, with its legal
+    /// candidates.
     #[tactic(auto, unfolding(crate::specs::Picks::seeded_pick))]
     fn mend_from(
         &mut self,
@@ -119,7 +120,8 @@ fn choose_at_random(
     }
 }
 
-// Makes the repair that is chosen by what was drawn. `first` is the first conflict that has a legal candidate, with its legal candidates.
+// Makes the repair that is chosen by what was drawn. `first` is the first conflict that has a legal candidate, with its legal
+// candidates.
 fn mend_by(
     alloc: Global,
     board: &mut Board,

@@ -28,8 +28,8 @@ fn chooses_or_deletes(id: u32, mv: &RepairMove) -> bool
     }
 }
 
-/// Whether the first move chooses an alternative of an activity, and each other one chooses an alternative of the same activity or deletes
-/// it.
+/// Whether the first move chooses an alternative of an activity, and each other one chooses an alternative of the same activity or
+/// deletes it.
 pub(crate) fn are_of_one(first: &RepairMove, rest: &[RepairMove]) -> bool
     ensures { result ≡ true → All IsOfActivities (first.now ∷ rest.now) }
 {

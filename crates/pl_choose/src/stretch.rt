@@ -77,7 +77,8 @@ fn between(board: &Board, of: RepairMove, first: &RepairMove, last: &RepairMove)
     Stretch::none(of)
 }
 
-/// The stretch from the first to the last of some moves that place the same activities as `of`, if they are not few and both are legal.
+/// The stretch from the first to the last of some moves that place the same activities as `of`, if they are not few and both are
+/// legal.
 pub(crate) fn stretch_of(board: &Board, of: RepairMove, run: &[RepairMove]) -> Stretch
     requires unspoiled { board.now.spoiled ≡ false }
     requires proper { All (IsProper board.now.state) run.now }

@@ -85,8 +85,8 @@ fn try_run(
     })
 }
 
-/// Tries some moves in their order, up to one that is better than the best so far. Moves in a row that place the same activities at other
-/// starts are tried together.
+/// Tries some moves in their order, up to one that is better than the best so far. Moves in a row that place the same activities at
+/// other starts are tried together.
 pub(crate) fn try_until_better(
     alloc: Global,
     board: &mut Board,
