@@ -1,4 +1,4 @@
--- Moves that are tried in progress, from the first on.
+-- Moves that are tried in turn, from the first on.
 use Rattle.std.proofs.Common.{◌≡◌, ℕ, ◌+◌, ◌<◌, ◌≤◌, List, [], ◌∷◌, map, length, get_or, drop, refl, sym, ap, ◌∙◌, subst, arith, inl, inr}
 use Rattle.std.specs.Prelude.{◌⊎◌, All, Some, None}
 use Rattle.std.proofs.lemmas.List.{drop_more, get_or-map, get_or_default, length-map}

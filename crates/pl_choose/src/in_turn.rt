@@ -1,5 +1,4 @@
-//! Moves that take out the same activities are tried in progress, each in place of the one before. So the board changes once for
-//! each.
+//! Moves that take out the same activities are tried in turn, each in place of the one before. So the board changes once for each.
 ghost use Rattle.std.specs.Prelude.{◌≡◌, ◌⊎◌, ◌<◌, ◌+◌, ◌^◌, true, false, All, map, length, Some, IfOk, OnOk, OnErr};
 ghost use Rattle.pl_semantics.specs.Conflicts.{conflicts_of};
 ghost use Rattle.pl_semantics.specs.Moves.{applied};
