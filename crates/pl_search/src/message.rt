@@ -8,7 +8,7 @@ use pl_model::Timeline;
 use pl_plan::Activity;
 use pl_semantics::PlanState;
 
-/// Parts of a plan state that no repair changes. If one of them differs, a message came.
+/// Parts of a plan state that no repair changes. As long as none of them differs, the message is taken to be the same.
 #[derive(Clone, Copy, PartialEq, Eq)]
 pub(crate) struct Message {
     moment: u32,
