@@ -15,11 +15,11 @@ use Rattle.pl_board.specs.Boards.{Standing, after}
 use Rattle.pl_moves.specs.Undone.{IsUndoneBy}
 use Rattle.pl_choose.specs.declared.best.Best.{Best}
 use Rattle.pl_choose.specs.declared.stages.Stage.{Stage}
-use Rattle.pl_choose.specs.declared.turns.Turn.{Turn}
+use Rattle.pl_choose.specs.declared.in_turn.Progress.{Progress}
 use Rattle.pl_choose.specs.Picks.{fewest}
 use Rattle.pl_choose.specs.Stages.{CanStandInstead, IsStage, TakesOut, instead, move_of, next_behind}
 use Rattle.pl_choose.specs.Tried.{better_of, best_of}
-use Rattle.pl_choose.specs.Turns.{AreTried, gone_in}
+use Rattle.pl_choose.specs.InTurn.{AreTried, gone_in}
 use Rattle.pl_choose.proofs.Instead.{can_stand, stood}
 use Rattle.pl_choose.proofs.Trying.{best, all_tried, found, next_tried, none_better}
 
@@ -43,14 +43,14 @@ left_is s m b n made is = is ∙ ap (λ (c : Standing). length (conflicts_of c.s
 -- ---- so far
 
 -- the move that is made, and the best so far, which leads to the best of all
-pub record AreTurned (s : PlanState) (moves : List RepairMove) (t : Turn) (now : Standing) : Type 0 where
+pub record AreTriedSoFar (s : PlanState) (moves : List RepairMove) (t : Progress) (now : Standing) : Type 0 where
   pub within : t.at < length moves
   pub made : now ≡ after (applied s (get_or moves t.at any))
   pub reached : t.place < length moves
   pub there : get_or moves t.place any ≡ t.best.mv
   pub leads : best_of (left_after s) t.best (drop (t.at + 1) moves) ≡ best_all (left_after s) moves
 
-pub begun : (s : PlanState) (moves : List RepairMove) (m : RepairMove) (left : ℕ) (now : Standing) → 0 < length moves → m ≡ get_or moves 0 any → now ≡ after (applied s m) → left ≡ length (conflicts_of now.state) → AreTurned s moves (record { at = 0; best = record { mv = m; left = left }; place = 0 }) now
+pub begun : (s : PlanState) (moves : List RepairMove) (m : RepairMove) (left : ℕ) (now : Standing) → 0 < length moves → m ≡ get_or moves 0 any → now ≡ after (applied s m) → left ≡ length (conflicts_of now.state) → AreTriedSoFar s moves (record { at = 0; best = record { mv = m; left = left }; place = 0 }) now
 begun s moves m left now some is made counted =
     let first : now ≡ after (applied s (get_or moves 0 any)) = made ∙ ap (λ (x : RepairMove). after (applied s x)) is in
     let all : left ≡ left_after s (get_or moves 0 any) = left_is s (get_or moves 0 any) now left first counted in
@@ -62,9 +62,9 @@ begun s moves m left now some is made counted =
       leads = ap (λ (b : Best). best_of (left_after s) b (drop 1 moves)) (ap (λ (x : RepairMove). best x left) is ∙ ap (λ (n : ℕ). best (get_or moves 0 any) n) all);
     }
 
-pub turned_on : (s : PlanState) (moves : List RepairMove) (t u : Turn) (now then_ : Standing) (m : RepairMove) (left : ℕ) → AreTurned s moves t now → t.at + 1 < length moves → m ≡ get_or moves (t.at + 1) any → then_ ≡ after (applied s m) → left ≡ length (conflicts_of then_.state)
-    → u.at ≡ t.at + 1 → u.best ≡ better_of t.best m left → ((u.place ≡ t.at + 1) × (u.best.mv ≡ m)) ⊎ ((u.place ≡ t.place) × (u.best ≡ t.best)) → AreTurned s moves u then_
-turned_on s moves t u now then_ m left so_far lt is made counted at best_is place = record {
+pub went_on : (s : PlanState) (moves : List RepairMove) (t u : Progress) (now then_ : Standing) (m : RepairMove) (left : ℕ) → AreTriedSoFar s moves t now → t.at + 1 < length moves → m ≡ get_or moves (t.at + 1) any → then_ ≡ after (applied s m) → left ≡ length (conflicts_of then_.state)
+    → u.at ≡ t.at + 1 → u.best ≡ better_of t.best m left → ((u.place ≡ t.at + 1) × (u.best.mv ≡ m)) ⊎ ((u.place ≡ t.place) × (u.best ≡ t.best)) → AreTriedSoFar s moves u then_
+went_on s moves t u now then_ m left so_far lt is made counted at best_is place = record {
   within = subst (λ (k : ℕ). k < length moves) (sym at) lt;
   made = made ∙ (ap (λ (x : RepairMove). after (applied s x)) is ∙ ap (λ (k : ℕ). after (applied s (get_or moves k any))) (sym at));
   reached = by_reached place;
@@ -83,7 +83,7 @@ turned_on s moves t u now then_ m left so_far lt is made counted at best_is plac
     by_there (inl here) = ap (λ (k : ℕ). get_or moves k any) here.0 ∙ (sym is ∙ sym here.1)
     by_there (inr before) = ap (λ (k : ℕ). get_or moves k any) before.0 ∙ (so_far.there ∙ ap (λ (b : Best). b.mv) (sym before.1))
 
-tried : (s : PlanState) (moves : List RepairMove) (t : Turn) (now : Standing) → AreTurned s moves t now → t.best ≡ best_all (left_after s) moves → AreTried s moves t now
+tried : (s : PlanState) (moves : List RepairMove) (t : Progress) (now : Standing) → AreTriedSoFar s moves t now → t.best ≡ best_all (left_after s) moves → AreTried s moves t now
 tried s moves t now so_far is = record {
   within = so_far.within;
   made = λ d. so_far.made ∙ ap (λ (m : RepairMove). after (applied s m)) (get_or_default moves t.at any d so_far.within);
@@ -93,12 +93,12 @@ tried s moves t now so_far is = record {
 }
 
 -- none is left
-pub all_turned : (s : PlanState) (moves : List RepairMove) (t : Turn) (now : Standing) → AreTurned s moves t now → length moves ≤ t.at + 1 → AreTried s moves t now
-all_turned s moves t now so_far over = tried s moves t now so_far (all_tried (left_after s) moves (t.at + 1) t.best (best_all (left_after s) moves) over so_far.leads)
+pub when_all_are_tried : (s : PlanState) (moves : List RepairMove) (t : Progress) (now : Standing) → AreTriedSoFar s moves t now → length moves ≤ t.at + 1 → AreTried s moves t now
+when_all_are_tried s moves t now so_far over = tried s moves t now so_far (all_tried (left_after s) moves (t.at + 1) t.best (best_all (left_after s) moves) over so_far.leads)
 
 -- none can be better
-pub enough_turned : (s : PlanState) (moves : List RepairMove) (t : Turn) (now : Standing) → AreTurned s moves t now → t.best.left ≡ 0 → AreTried s moves t now
-enough_turned s moves t now so_far none = tried s moves t now so_far (sym (none_better (left_after s) t.best (drop (t.at + 1) moves) (λ i d lt. omega (arith, none))) ∙ so_far.leads)
+pub when_none_can_be_better : (s : PlanState) (moves : List RepairMove) (t : Progress) (now : Standing) → AreTriedSoFar s moves t now → t.best.left ≡ 0 → AreTried s moves t now
+when_none_can_be_better s moves t now so_far none = tried s moves t now so_far (sym (none_better (left_after s) t.best (drop (t.at + 1) moves) (λ i d lt. omega (arith, none))) ∙ so_far.leads)
 
 -- ---- from one to another
 
@@ -125,11 +125,11 @@ module _ (s : PlanState) (whole : IsWhole s) (stages : List Stage) (gone : List 
     made_one : b ≡ after (applied s one.mv)
     made_one = made ∙ ap (λ (m : RepairMove). after (applied s m)) (sym (move_at i one lt is))
 
-    pub can_turn : CanStandInstead b.state s.next_id one other
-    can_turn = can_stand s whole gone one other (is_stage i one lt is) (is_stage j other lt_other is_other) (takes_out i one lt is) (takes_out j other lt_other is_other) b made_one
+    pub can_follow : CanStandInstead b.state s.next_id one other
+    can_follow = can_stand s whole gone one other (is_stage i one lt is) (is_stage j other lt_other is_other) (takes_out i one lt is) (takes_out j other lt_other is_other) b made_one
 
-    pub turns : (c : Standing) → c ≡ after (with_next (next_behind s.next_id other) (instead b.state one other)) → c ≡ after (applied s other.mv)
-    turns c then_ = stood s whole gone one other (is_stage i one lt is) (is_stage j other lt_other is_other) (takes_out i one lt is) (takes_out j other lt_other is_other) b c made_one then_
+    pub follows : (c : Standing) → c ≡ after (with_next (next_behind s.next_id other) (instead b.state one other)) → c ≡ after (applied s other.mv)
+    follows c then_ = stood s whole gone one other (is_stage i one lt is) (is_stage j other lt_other is_other) (takes_out i one lt is) (takes_out j other lt_other is_other) b c made_one then_
 
 -- what the first takes out
 pub gone_first : (stages : List Stage) (t : Stage) → 0 < length stages → t ≡ get_or stages 0 t → t.trial.change.gone.items ≡ gone_in stages
@@ -142,7 +142,7 @@ some_stage (t ∷ stages) m ms is = omega arith
 
 -- ---- the end
 
-module _ (s : PlanState) (whole : IsWhole s) (stages : List Stage) (gone : List ℕ) (are : All (IsStage s) stages) (same : All (TakesOut gone) stages) (t : Turn) (now : Standing) (tried : AreTried s (map move_of stages) t now) where
+module _ (s : PlanState) (whole : IsWhole s) (stages : List Stage) (gone : List ℕ) (are : All (IsStage s) stages) (same : All (TakesOut gone) stages) (t : Progress) (now : Standing) (tried : AreTried s (map move_of stages) t now) where
   pub at_within : t.at < length stages
   at_within = let e : length (map move_of stages) ≡ length stages = length-map stages move_of in let lt : t.at < length (map move_of stages) = tried.within in omega (arith, e, lt)
 
@@ -162,9 +162,9 @@ module _ (s : PlanState) (whole : IsWhole s) (stages : List Stage) (gone : List 
 
     module _ (other : Stage) (is_other : other ≡ get_or stages t.place other) where
       pub can_best : CanStandInstead now.state s.next_id one other
-      can_best = can_turn s whole stages gone are same t.at t.place one other at_within place_within is is_other now (tried.made any)
+      can_best = can_follow s whole stages gone are same t.at t.place one other at_within place_within is is_other now (tried.made any)
 
       pub makes_best : (then_ : Standing) → then_ ≡ after (with_next (next_behind s.next_id other) (instead now.state one other)) → then_ ≡ after (applied s t.best.mv)
       makes_best then_ made =
-          turns s whole stages gone are same t.at t.place one other at_within place_within is is_other now (tried.made any) then_ made
+          follows s whole stages gone are same t.at t.place one other at_within place_within is is_other now (tried.made any) then_ made
           ∙ ap (λ (m : RepairMove). after (applied s m)) (move_at s whole stages gone are same t.place other place_within is_other ∙ tried.there any)

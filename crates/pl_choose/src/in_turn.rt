@@ -9,7 +9,7 @@ ghost use Rattle.pl_choose.specs.Picked.{IsPicked};
 ghost use Rattle.pl_choose.specs.Picks.{fewest};
 ghost use Rattle.pl_choose.specs.Stages.{CanStandInstead, IsStage, TakesOut, instead, move_of, next_behind};
 ghost use Rattle.pl_choose.specs.Tried.{better_of};
-ghost use Rattle.pl_choose.specs.Turns.{AreTried, gone_in};
+ghost use Rattle.pl_choose.specs.InTurn.{AreTried, gone_in};
 
 use crate::best::Best;
 use crate::picked::Picked;
@@ -22,11 +22,14 @@ use pl_points::{Quiet, Steps};
 use pl_update::changes::next_after;
 use std::alloc::{AllocError, Global};
 
-/// The place of the move that is made, and the best so far with its place.
+/// How far the moves have been tried.
 #[derive(Clone, Copy)]
-pub(crate) struct Turn {
+pub(crate) struct Progress {
+    /// The place of the move that is made at present.
     pub(crate) at: usize,
+    /// The best move so far.
     pub(crate) best: Best,
+    /// The place of the best move so far.
     pub(crate) place: usize,
 }
 
@@ -43,7 +46,8 @@ fn count(alloc: Global, board: &Board) -> Result<usize, AllocError>
     Ok(listed.len())
 }
 
-// Makes one move in place of another, given the next id before both.
+// Undoes the move that is made and makes the other one, by one change of the board. `next` is the next number for an activity before
+// both.
 fn make_instead(board: &mut Board, made: &Stage, other: &Stage, next: u32) -> Result<(), AllocError>
     requires unspoiled { board.old.spoiled ≡ false }
     requires can { CanStandInstead board.old.state next made.now other.now }
@@ -55,31 +59,31 @@ fn make_instead(board: &mut Board, made: &Stage, other: &Stage, next: u32) -> Re
     Ok(())
 }
 
-// The next one is made, and leaves so many conflicts.
-fn turned(turn: Turn, mv: RepairMove, left: usize) -> Turn
-    requires { turn.at < 2 ^ 63 }
-    ensures at { result.at ≡ turn.at + 1 }
-    ensures best { result.best ≡ better_of turn.best mv left }
-    ensures place { ((result.place ≡ turn.at + 1) × (result.best.mv ≡ mv)) ⊎ ((result.place ≡ turn.place) × (result.best ≡ turn.best)) }
+// The progress once the next move was made, and leaves so many conflicts.
+fn tried_next(progress: Progress, mv: RepairMove, left: usize) -> Progress
+    requires { progress.at < 2 ^ 63 }
+    ensures at { result.at ≡ progress.at + 1 }
+    ensures best { result.best ≡ better_of progress.best mv left }
+    ensures place { ((result.place ≡ progress.at + 1) × (result.best.mv ≡ mv)) ⊎ ((result.place ≡ progress.place) × (result.best ≡ progress.best)) }
 {
-    let at = turn.at + 1;
-    if left < turn.best.left {
-        return Turn {
+    let at = progress.at + 1;
+    if left < progress.best.left {
+        return Progress {
             at,
             best: Best { mv, left },
             place: at,
         };
     }
-    Turn { at, ..turn }
+    Progress { at, ..progress }
 }
 
-// Makes each of the moves in place of the one before, unless none can be better. The last one stays made.
-fn take_turns(
+// Makes each of the moves in place of the one before, up to one that leaves no conflict. The last one that was made stays made.
+fn try_each(
     alloc: Global,
     board: &mut Board,
     stages: &[Stage],
     next: u32,
-) -> Result<Turn, AllocError>
+) -> Result<Progress, AllocError>
     requires unspoiled { board.old.spoiled ≡ false }
     requires whole { IsWhole board.old.state }
     requires next { next ≡ board.old.state.next_id }
@@ -91,25 +95,25 @@ fn take_turns(
     let first = &stages[0];
     make_change(board, &first.trial.change, &mut Steps::new(Quiet))?;
     let left = count(alloc, board)?;
-    let mut turn = Turn {
+    let mut progress = Progress {
         at: 0,
         best: Best { mv: first.mv, left },
         place: 0,
     };
-    'turns: while turn.at + 1 < stages.len() {
-        if turn.best.left == 0 {
-            return Ok(turn);
+    'trials: while progress.at + 1 < stages.len() {
+        if progress.best.left == 0 {
+            return Ok(progress);
         }
-        let then = turn.at + 1;
+        let then = progress.at + 1;
         let other = &stages[then];
-        make_instead(board, &stages[turn.at], other, next)?;
+        make_instead(board, &stages[progress.at], other, next)?;
         let left = count(alloc, board)?;
-        turn = turned(turn, other.mv, left);
+        progress = tried_next(progress, other.mv, left);
     }
-    Ok(turn)
+    Ok(progress)
 }
 
-// Tries the moves and takes the last one back.
+// The best of the moves. The one that was made last is undone.
 fn best_in_turn(
     alloc: Global,
     board: &mut Board,
@@ -123,14 +127,14 @@ fn best_in_turn(
     ensures same { OnOk result (board.new ≡ board.old) }
 {
     let next = board.state().next_id;
-    let turn = take_turns(alloc, board, stages, next)?;
-    let made = &stages[turn.at];
+    let progress = try_each(alloc, board, stages, next)?;
+    let made = &stages[progress.at];
     make_change(board, &made.trial.undo, &mut Steps::new(Quiet))?;
     board.reset_next(next);
-    Ok(turn.best.mv)
+    Ok(progress.best.mv)
 }
 
-// Tries the moves and leaves the best one made.
+// The best of the moves, which stays made.
 fn make_in_turn(
     alloc: Global,
     board: &mut Board,
@@ -144,12 +148,12 @@ fn make_in_turn(
     ensures made { IfOk result (λ m. board.new ≡ after (applied board.old.state m)) }
 {
     let next = board.state().next_id;
-    let turn = take_turns(alloc, board, stages, next)?;
-    if turn.place == turn.at {
-        return Ok(turn.best.mv);
+    let progress = try_each(alloc, board, stages, next)?;
+    if progress.place == progress.at {
+        return Ok(progress.best.mv);
     }
-    make_instead(board, &stages[turn.at], &stages[turn.place], next)?;
-    Ok(turn.best.mv)
+    make_instead(board, &stages[progress.at], &stages[progress.place], next)?;
+    Ok(progress.best.mv)
 }
 
 fn pick_by_purpose(
