@@ -1,5 +1,5 @@
 -- What a move of a subtree leaves beside it: no other activity but the parent of the uppermost has a child in it.
-use Rattle.std.proofs.Common.{◌≡◌, ℕ, eqb, Bool, true, false, List, [], ◌∷◌, map, filter, Option, Some, None, refl, sym, ap, ◌∙◌, subst}
+use Rattle.std.proofs.Common.{◌≡◌, ℕ, eqb, Bool, true, false, List, [], ◌∷◌, map, filter, get_or, Option, Some, None, refl, sym, ap, ◌∙◌, subst}
 use Rattle.std.specs.Prelude.{◌&&◌, ◌||◌, All, Contains, option_and_then}
 use Rattle.std.specs.List.{flat_map}
 use Rattle.std.proofs.lemmas.Bool.{eq-eqb, ne_eqb, or_from, or_left, or_right}
@@ -62,7 +62,7 @@ module _ (s : PlanState) (whole : IsWhole s) (id : ℕ) where
     -- the parent of one of them is another one
     parent_other : (n r : ℕ) → Descends xs id n → parent_of n xs ≡ Some r → IsLive r xs → eqb r p ≡ false
     parent_other n r itself up live = sym (ap (is_number p) up) ∙ apart
-    parent_other n r (child n above its under) up live =
+    parent_other n r (child m above its under) up live =
         ne_eqb r p (λ e. absurd (
             let same : Some above ≡ Some r = sym its ∙ up in
             let is : above ≡ r = cc in
@@ -82,22 +82,25 @@ module _ (s : PlanState) (whole : IsWhole s) (id : ℕ) where
     pub none_goes : (slot : ℕ) → All (Fails (fills p slot) xs) sub
     none_goes slot = all_among (Fails (fills p slot) xs) sub (λ i there a e. no_slot slot a (found_live i xs a e) (ap (λ (k : ℕ). among k sub) (found_id i xs a e) ∙ there))
 
-    pub none_comes_of : (slot from to : ℕ) (y : Activity) → found s y.id ≡ Some y → among y.id sub ≡ true → fills p slot (moved from to y) ≡ false
-    none_comes_of slot from to y live there = no_slot slot y live there
-
   -- ---- what a shift places
 
   module _ (to : ℕ) where
     all_of : (Q : Activity → Type 0) → ((from : ℕ) (y : Activity) → found s y.id ≡ Some y → among y.id sub ≡ true → Q (moved from to y)) → (o : Option Activity) → found s id ≡ o → All Q (moved_with s to o)
     all_of Q each None e = All-nil Q
     all_of Q each (Some top) e = All-map Q (moved top.start to) (filter (is_under s top.id) xs) (λ k d lt.
-        each top.start _ (All-filter (is_under s top.id) (λ (y : Activity). found s y.id ≡ Some y) xs (each_found xs whole.rising) k d lt) (inside _ (All-filter (is_under s top.id) (λ (y : Activity). found s y.id ≡ Some y) xs (each_found xs whole.rising) k d lt) (filter_passes (is_under s top.id) xs k d lt)))
+        let y = get_or (filter (is_under s top.id) xs) k d in
+        let live : found s y.id ≡ Some y = All-filter (is_under s top.id) (λ (z : Activity). found s z.id ≡ Some z) xs (each_found xs whole.rising) k d lt in
+        each top.start y live (inside y live (filter_passes (is_under s top.id) xs k d lt)))
       where
         inside : (y : Activity) → found s y.id ≡ Some y → is_under s top.id y ≡ true → among y.id sub ≡ true
         inside y live under = held s whole id y.id (rw live refl) (subst (λ (n : ℕ). Descends xs n y.id) (found_id id xs top e) (descends_sound xs whole.fits.rooted top.id y.id under))
 
     pub all_moved : (Q : Activity → Type 0) → ((from : ℕ) (y : Activity) → found s y.id ≡ Some y → among y.id sub ≡ true → Q (moved from to y)) → All Q (moved_with s to (found s id))
     all_moved Q each = all_of Q each (found s id) refl
+
+    -- in no slot of another one
+    pub none_comes : (p : ℕ) → among p sub ≡ false → is_number p (parent_of id xs) ≡ false → (slot : ℕ) → All (λ (m : Activity). fills p slot m ≡ false) (moved_with s to (found s id))
+    none_comes p left apart slot = all_moved (λ (m : Activity). fills p slot m ≡ false) (λ from y live there. no_slot p left apart slot y live there)
 
     -- of no other kind than what moves
     pub kinds_left : (k : ℕ) → among k (kinds_of s sub) ≡ false → All (λ (m : Activity). eqb m.kind k ≡ false) (moved_with s to (found s id))

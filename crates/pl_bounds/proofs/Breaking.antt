@@ -56,21 +56,21 @@ linked_order s a j q (Some o) e = linked_from s a j q (place_in s a o.first) (pl
 
 -- ---- one activity
 
+-- its orders that are not met are not met afterwards, and tell the same
+pub record StayUnmet (s t : PlanState) (a : Activity) : Type 0 where
+  pub unmet : (o : Order) → is_unmet (placed_in s) (placed_of s a) o ≡ true → is_unmet (placed_in t) (placed_of t a) o ≡ true
+  pub told : (j : ℕ) → link_conflict t a true j ≡ link_conflict s a true j
+
 module _ (s : PlanState) (gone : List ℕ) (more : List Activity) (a : Activity) where
   abbrev t : PlanState
   t = with_plan gone more s
-
-  -- its orders that are not met are not met afterwards, and tell the same
-  pub record StayUnmet : Type 0 where
-    pub unmet : (o : Order) → is_unmet (placed_in s) (placed_of s a) o ≡ true → is_unmet (placed_in t) (placed_of t a) o ≡ true
-    pub told : (j : ℕ) → link_conflict t a true j ≡ link_conflict s a true j
 
   module _ (q : Conflict) where
     -- its link that this conflict is about finds no partner afterwards, where it found none
     abbrev pub StaysLone : Type 0
     StaysLone = (j : ℕ) (l : Link) → q.code ≡ Temporal → q.detail ≡ j → slice_get (links_of s.model (placed_of s a)) j ≡ Some l → lacks_partner (placed_in s) (placed_of s a) l ≡ true → lacks_partner (placed_in t) (placed_of t a) l ≡ true
 
-    module _ (lonely : StaysLone) (orders : q.code ≡ Linked → StayUnmet) where
+    module _ (lonely : StaysLone) (orders : q.code ≡ Linked → StayUnmet s t a) where
       abbrev links : List Link
       links = links_of s.model (placed_of s a)
 
@@ -108,7 +108,7 @@ module _ (s : PlanState) (gone : List ℕ) (more : List Activity) (a : Activity)
           by_unmet o false unmet e = absurd (cc)
           by_unmet o true unmet e =
               let here : has q (link_conflict s a true j) ≡ true = only q (link_conflict s a true j) e in
-              let stay : StayUnmet = orders (linked_order s a j q (order_at s a j) here) in
+              let stay : StayUnmet s t a = orders (linked_order s a j q (order_at s a j) here) in
               ap (λ (b : Bool). has q (flat_map (conflict_of t a) (when b (of_order j)))) (stay.unmet o unmet)
               ∙ (ap (λ (ks : List Conflict). has q (ks ++ [])) (stay.told j) ∙ e)
 
@@ -118,7 +118,7 @@ module _ (s : PlanState) (gone : List ℕ) (more : List Activity) (a : Activity)
 
       below_keeps : (n : ℕ) → Keeps q (flat_map (conflict_of s a) (broken_below (placed_in s) (placed_of s a) links broken_orders n)) (flat_map (conflict_of t a) (broken_below (placed_in t) (placed_of t a) links broken_orders n))
       below_keeps zero e = absurd (cc)
-      below_keeps (suc n) =
+      below_keeps (suc n) e =
           keeps_both q (conflict_of s a) (conflict_of t a)
           (broken_below (placed_in s) (placed_of s a) links broken_orders n) (broken_at (placed_in s) (placed_of s a) links broken_orders n)
           (broken_below (placed_in t) (placed_of t a) links broken_orders n) (broken_at (placed_in t) (placed_of t a) links broken_orders n)
@@ -126,7 +126,7 @@ module _ (s : PlanState) (gone : List ℕ) (more : List Activity) (a : Activity)
           (keeps_both q (conflict_of s a) (conflict_of t a)
           (when (is_link_broken (placed_in s) (placed_of s a) (slice_get links n)) (of_link n)) (when (is_order_broken (placed_in s) (placed_of s a) (slice_get broken_orders n)) (of_order n))
           (when (is_link_broken (placed_in t) (placed_of t a) (slice_get links n)) (of_link n)) (when (is_order_broken (placed_in t) (placed_of t a) (slice_get broken_orders n)) (of_order n))
-          (link_keeps n) (order_keeps n))
+          (link_keeps n) (order_keeps n)) e
 
       pub links_keep : has q (links_at s a) ≡ true → has q (links_at t a) ≡ true
       unfolding links_at

@@ -33,7 +33,7 @@ use Rattle.pl_update.proofs.AboutChanges.Putting.{puttable}
 use Rattle.pl_update.proofs.AboutEvaluations.Keeping.{among_neither, not_there}
 use Rattle.pl_update.proofs.AboutLinks.Lookups.{Fails, find-replaced}
 use Rattle.pl_update.proofs.AboutLinks.Storing.{put_placed}
-use Rattle.pl_bounds.proofs.Breaking.{StaysLone, StayUnmet}
+use Rattle.pl_bounds.proofs.Breaking.{StayUnmet}
 
 -- ---- lists of placed activities of which none passes a test
 
@@ -188,7 +188,7 @@ module _ (s : PlanState) (gone : List ℕ) (more : List Activity) (whole : IsWho
         ap (λ (first : Option Activity). unmet_from t a j first (place_in t a o.second)) (place_same o.first)
         ∙ ap (unmet_from s a j (place_in s a o.first)) (place_same o.second)
 
-    pub unmet_still : StayUnmet s gone more a
+    pub unmet_still : StayUnmet s t a
     unmet_still = record {
       unmet = λ o e. unmet_same o ∙ e;
       told = λ j. told_by j (order_at s a j);

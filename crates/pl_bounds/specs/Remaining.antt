@@ -1,5 +1,5 @@
 -- Conflicts of links that stand, and those of them that a move leaves.
-use Rattle.std.specs.Prelude.{ℕ, ◌&&◌, not, Bool, false, List, [], ◌∷◌, Option, Some, None, filter, length, slice_get, option_and_then, option_to_list}
+use Rattle.std.specs.Prelude.{ℕ, ◌≤◌, ◌&&◌, not, Bool, false, List, [], ◌∷◌, Option, Some, None, filter, length, slice_get, option_and_then, option_to_list}
 use Rattle.std.specs.List.{flat_map}
 use Rattle.std.specs.Option.{option_map}
 use Rattle.pl_conflict.specs.declared.conflict.Conflict.{Conflict}
@@ -9,6 +9,7 @@ use Rattle.pl_links.specs.Broken.{links_in}
 use Rattle.pl_model.specs.declared.links.Link.{Link}
 use Rattle.pl_plan.specs.declared.activity.Activity.{Activity}
 use Rattle.pl_plan.specs.Index.{is_number}
+use Rattle.pl_plan.specs.Trees.{parent_of, subtree_of}
 use Rattle.pl_semantics.specs.declared.plan_state.PlanState.{PlanState}
 use Rattle.pl_semantics.specs.Conflicts.{conflicts_of}
 use Rattle.pl_semantics.specs.PlanStates.{among, found, of_found}
@@ -79,3 +80,7 @@ kind_alone a = a.kind ∷ []
 -- the kinds of the activities of these ids
 abbrev pub kinds_of : PlanState → List ℕ → List ℕ
 kinds_of s ids = flat_map (λ id. of_found kind_alone (found s id)) ids
+
+-- no more than a shift of this activity leaves, with all that descends from it
+abbrev pub IsLeftByShifting : PlanState → ℕ → ℕ → Type 0
+IsLeftByShifting s id n = n ≤ count_of_untouched s (subtree_of id s.plan.activities) (kinds_of s (subtree_of id s.plan.activities)) (parent_of id s.plan.activities)

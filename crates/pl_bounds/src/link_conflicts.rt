@@ -49,10 +49,10 @@ fn listed(board: &Board, conflict: &Conflict) -> Option<LinkConflict>
 fn add(board: &Board, conflict: &Conflict, all: &mut Vec<LinkConflict>) -> Result<(), AllocError>
     ensures { OnOk result (all.new.items ≡ all.old.items ++ option_to_list (listed board.now.state conflict.now)) }
 {
-    if let Some(one) = listed(board, conflict) {
-        all.push(one)?;
+    match listed(board, conflict) {
+        Some(one) => Ok(all.push(one)?),
+        None => Ok(()),
     }
-    Ok(())
 }
 
 /// Those that stand.

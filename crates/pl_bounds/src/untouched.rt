@@ -1,10 +1,11 @@
 //! How many conflicts of links that stand a move leaves: those of other activities than it takes out, which seek another kind than it
 //! places, and which do not tell of an order in which what moves, or goes, stands.
-ghost use Rattle.std.specs.Prelude.{◌≡◌, ◌≤◌, ◌∷◌, [], false, None, filter, length, IfOk};
+ghost use Rattle.std.specs.Prelude.{◌≡◌, ◌≤◌, ◌∷◌, ◌++◌, [], false, None, filter, length, IfOk, OnOk};
 ghost use Rattle.pl_plan.specs.Index.{is_number};
 ghost use Rattle.pl_plan.specs.Trees.{parent_of, subtree_of};
+ghost use Rattle.pl_semantics.specs.PlanStates.{found, of_found};
 ghost use Rattle.pl_semantics.specs.declared.plan_state.PlanState.{PlanState};
-ghost use Rattle.pl_bounds.specs.Remaining.{count_of_untouched, is_left, kinds_of};
+ghost use Rattle.pl_bounds.specs.Remaining.{count_of_untouched, is_left, kind_alone, kinds_of, IsLeftByShifting};
 ghost use Rattle.pl_bounds.specs.Standing.{IsStandingOf};
 
 use crate::elsewhere::is_among;
@@ -54,15 +55,23 @@ fn parent_of(board: &Board, id: u32) -> Option<u32>
     Some(parent)
 }
 
+// With the kind of the activity of this id.
+fn add_kind(board: &Board, id: u32, kinds: &mut Vec<u32>) -> Result<(), AllocError>
+    ensures { OnOk result (kinds.new.items ≡ kinds.old.items ++ of_found kind_alone (found board.now.state id)) }
+{
+    match board.plan().get(id) {
+        Some(a) => Ok(kinds.push(a.kind)?),
+        None => Ok(()),
+    }
+}
+
 // The kinds of the activities of these ids.
 fn kinds_of(alloc: Global, board: &Board, ids: &[u32]) -> Result<Vec<u32>, AllocError>
     ensures { IfOk result (λ kinds. kinds.items ≡ kinds_of board.now.state ids.now) }
 {
     let mut kinds = Vec::new(alloc);
     for id in ids {
-        if let Some(a) = board.plan().get(*id) {
-            kinds.push(a.kind)?;
-        }
+        add_kind(board, *id, &mut kinds)?;
     }
     Ok(kinds)
 }
@@ -81,15 +90,12 @@ pub(crate) fn left_alone_by_deletion(
     id: u32,
     subtree: &[u32],
 ) -> u32
-    requires { IsStandingOf board.now.state standing.now }
-    ensures { result ≤ count_of_untouched board.now.state subtree.now [] (parent_of id board.now.state.plan.activities) }
+    requires standing { IsStandingOf board.now.state standing.now }
+    requires subtree { subtree.now ≡ subtree_of id board.now.state.plan.activities }
+    ensures { result ≤ count_of_untouched board.now.state (subtree_of id board.now.state.plan.activities) [] (parent_of id board.now.state.plan.activities) }
 {
-    count_left(
-        standing.links.as_slice(),
-        subtree,
-        &[],
-        parent_of(board, id),
-    )
+    let parent = parent_of(board, id);
+    count_left(standing.links.as_slice(), subtree, &[], parent)
 }
 
 /// How many a shift leaves, given the ids of the subtree that moves.
@@ -100,17 +106,15 @@ pub(crate) fn left_alone_by_shift(
     id: u32,
     subtree: &[u32],
 ) -> Result<u32, AllocError>
-    requires { IsStandingOf board.now.state standing.now }
-    ensures { IfOk result (λ n. n ≤ count_of_untouched board.now.state subtree.now (kinds_of board.now.state subtree.now) (parent_of id board.now.state.plan.activities)) }
+    requires standing { IsStandingOf board.now.state standing.now }
+    requires subtree { subtree.now ≡ subtree_of id board.now.state.plan.activities }
+    ensures { IfOk result (λ n. IsLeftByShifting board.now.state id n) }
 {
     if standing.links.is_empty() {
         return Ok(0);
     }
     let kinds = kinds_of(alloc, board, subtree)?;
-    Ok(count_left(
-        standing.links.as_slice(),
-        subtree,
-        kinds.as_slice(),
-        parent_of(board, id),
-    ))
+    let parent = parent_of(board, id);
+    let left = count_left(standing.links.as_slice(), subtree, kinds.as_slice(), parent);
+    Ok(left)
 }
