@@ -38,3 +38,7 @@ pub mod Staying
 pub mod Knowing
 pub mod Parted
 pub mod Lasting
+pub mod Slots
+pub mod Indexed
+pub mod Unmet
+pub mod Ordered

@@ -23,7 +23,7 @@ use Rattle.pl_bounds.specs.Counts.{AreApart}
 
 -- ---- one that is broken is a conflict
 
-flat_append : (f : Broken → List Conflict) (xs ys : List Broken) (q : Conflict) → has q (flat_map f (xs ++ ys)) ≡ (has q (flat_map f xs) || has q (flat_map f ys))
+pub flat_append : (f : Broken → List Conflict) (xs ys : List Broken) (q : Conflict) → has q (flat_map f (xs ++ ys)) ≡ (has q (flat_map f xs) || has q (flat_map f ys))
 flat_append f [] ys q = refl
 flat_append f (x ∷ xs) ys q =
     has-append (f x) (flat_map f (xs ++ ys)) q

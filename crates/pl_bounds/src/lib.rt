@@ -10,6 +10,7 @@ mod elsewhere;
 mod known;
 mod laws;
 mod looking;
+mod orders;
 mod outside;
 mod parting;
 mod pulls;
