@@ -40,5 +40,5 @@ pub mod Parted
 pub mod Lasting
 pub mod Slots
 pub mod Indexed
-pub mod Unmet
+pub mod Misplaced
 pub mod Ordered

@@ -31,6 +31,22 @@ flat_append f (x ∷ xs) ys q =
     ∙ ((sym (or_assoc (has q (f x)) (has q (flat_map f xs)) (has q (flat_map f ys))))
     ∙ ap (λ b. b || has q (flat_map f ys)) (sym (has-append (f x) (flat_map f xs) q))))
 
+-- what is broken at an index of one activity is among all that it breaks
+module _ (t : PlanState) (a : Activity) (links : List Link) (orders : List Order) where
+  abbrev conflicts_at : ℕ → List Conflict
+  conflicts_at j = flat_map (conflict_of t a) (broken_at (placed_in t) (placed_of t a) links orders j)
+
+  abbrev conflicts_below : ℕ → List Conflict
+  conflicts_below n = flat_map (conflict_of t a) (broken_below (placed_in t) (placed_of t a) links orders n)
+
+  pub among_all : (q : Conflict) (n j : ℕ) → j < n → has q (conflicts_at j) ≡ true → has q (conflicts_below n) ≡ true
+  among_all q zero j lt there = absurd (omega (arith, lt))
+  among_all q (suc n) j lt there = flat_append (conflict_of t a) (broken_below (placed_in t) (placed_of t a) links orders n) (broken_at (placed_in t) (placed_of t a) links orders n) q ∙ by (eqb j n) refl (among_all q n j)
+    where
+      by : (b : Bool) → eqb j n ≡ b → (j < n → has q (conflicts_at j) ≡ true → has q (conflicts_below n) ≡ true) → (has q (conflicts_below n) || has q (conflicts_at n)) ≡ true
+      by true e more = or_right (has q (conflicts_below n)) _ (subst (λ (m : ℕ). has q (conflicts_at m) ≡ true) (eqb-true j n e) there)
+      by false e more = or_left _ (has q (conflicts_at n)) (more (let other : j ≡ n → ⊥ = eqb-false j n e in grind (arith, other, lt)) there)
+
 module _ (t : PlanState) (a : Activity) (ahead : is_ahead t a ≡ true) where
   abbrev own : Placed
   own = placed_of t a
@@ -58,21 +74,12 @@ module _ (t : PlanState) (a : Activity) (ahead : is_ahead t a ≡ true) where
           ∙ (ap (λ b. has (lone a j) (states.when b (lone a j) ++ [])) ahead
           ∙ or_left (same (lone a j) (lone a j)) false (same_itself (lone a j)))
 
-  below : (links : List Link) (orders : List Order) (n j : ℕ) (l : Link) → j < n → slice_get links j ≡ Some l → lacks_partner items own l ≡ true → has (lone a j) (flat_map (conflict_of t a) (broken_below items own links orders n)) ≡ true
-  below links orders zero j l lt is lacks = absurd (omega (arith, lt))
-  below links orders (suc n) j l lt is lacks = flat_append (conflict_of t a) (broken_below items own links orders n) (broken_at items own links orders n) (lone a j) ∙ by (eqb j n) refl (below links orders n j l)
-    where
-      by : (b : Bool) → eqb j n ≡ b → (j < n → slice_get links j ≡ Some l → lacks_partner items own l ≡ true → has (lone a j) (flat_map (conflict_of t a) (broken_below items own links orders n)) ≡ true)
-          → (has (lone a j) (flat_map (conflict_of t a) (broken_below items own links orders n)) || has (lone a j) (flat_map (conflict_of t a) (broken_at items own links orders n))) ≡ true
-      by true e more = or_right (has (lone a j) (flat_map (conflict_of t a) (broken_below items own links orders n))) _ (subst (λ (m : ℕ). has (lone a j) (flat_map (conflict_of t a) (broken_at items own links orders m)) ≡ true) (eqb-true j n e) (here links orders j l is lacks))
-      by false e more = or_left _ (has (lone a j) (flat_map (conflict_of t a) (broken_at items own links orders n))) (more (let other : j ≡ n → ⊥ = eqb-false j n e in grind (arith, other, lt)) is lacks)
-
   pub lone_stands : AreRising t.plan.activities → found t a.id ≡ Some a → (j : ℕ) (l : Link) → j < length (links_of t.model own) → slice_get (links_of t.model own) j ≡ Some l → lacks_partner items own l ≡ true → has (lone a j) (link_conflicts t) ≡ true
   unfolding links_at
   lone_stands rising live j l lt is lacks =
       links_by_subject t rising (lone a j)
       ∙ (ap (λ (o : Option Activity). has (lone a j) (of_found (links_at t) o)) live
-      ∙ below (links_of t.model own) (orders_of t.model own) (max (length (links_of t.model own)) (length (orders_of t.model own))) j l (omega (arith, lt)) is lacks)
+      ∙ among_all t a (links_of t.model own) (orders_of t.model own) (lone a j) (max (length (links_of t.model own)) (length (orders_of t.model own))) j (omega (arith, lt)) (here (links_of t.model own) (orders_of t.model own) j l is lacks))
 
 -- ---- those of some links
 

@@ -1,7 +1,7 @@
 -- A shift of a child from which no other activity descends: the orders of its parent that speak of it and are not met at its new start
 -- are conflicts then.
 use Rattle.std.proofs.Common.{◌≡◌, ℕ, ◌+◌, ◌<◌, ◌≤◌, Bool, true, false, cond, eqb, List, [], ◌∷◌, map, filter, find, length, Option, Some, None, refl, sym, ap, ◌∙◌, subst, arith}
-use Rattle.std.specs.Prelude.{◌||◌, ◌&&◌, All, IfSome, slice_get, option_and_then}
+use Rattle.std.specs.Prelude.{◌||◌, ◌&&◌, All, slice_get, option_and_then}
 use Rattle.std.specs.Option.{option_map}
 use Rattle.std.proofs.lemmas.Bool.{and_parts, or_left}
 use Rattle.std.proofs.Math.Bool.{or-true}
@@ -18,7 +18,7 @@ use Rattle.pl_links.proofs.Slots.{place_is, slot_is}
 use Rattle.pl_plan.specs.declared.activity.Activity.{Activity}
 use Rattle.pl_plan.specs.declared.repair.RepairMove.TheVariants.{Shift}
 use Rattle.pl_plan.specs.Fitting.{fills}
-use Rattle.pl_plan.specs.Trees.{parent_in, parent_id, subtree_of}
+use Rattle.pl_plan.specs.Trees.{parent_in, parent_id, parent_of, subtree_of}
 use Rattle.pl_plan.proofs.Climbs.{all_at, parent_smaller}
 use Rattle.pl_plan.proofs.Kept.{each_found}
 use Rattle.pl_plan.proofs.TreeLaws.{descends_complete}
@@ -26,19 +26,29 @@ use Rattle.pl_plan.specs.Trees.Descends.{itself}
 use Rattle.pl_detect.proofs.Stored.{child_is}
 use Rattle.pl_semantics.specs.declared.plan_state.PlanState.{PlanState}
 use Rattle.pl_semantics.specs.Links.{placed_of, placed_in, place_in, link_conflicts}
-use Rattle.pl_semantics.specs.Moves.{applied, moved}
+use Rattle.pl_semantics.specs.Moves.{applied, moved, moved_with}
 use Rattle.pl_semantics.specs.PlanStates.{found, is_ahead}
 use Rattle.pl_semantics.specs.Whole.{IsWhole}
 use Rattle.pl_semantics.proofs.Found.{found_id, found_live}
+use Rattle.pl_update.proofs.AboutChanges.Keeping.{whole_replaced}
 use Rattle.pl_moves.specs.Runs.{CanBeMade}
-use Rattle.pl_bounds.specs.Orders.{is_moved, speaks_of, moment_with, is_missed, is_unmet_with, unmet_under, unmet_above, unmet_then, LeavesUnmet}
+use Rattle.pl_bounds.specs.Orders.{is_moved, speaks_of, moment_with, is_missed, is_unmet_with, unmet_under, unmet_above, unmet_then}
+use Rattle.pl_bounds.specs.Counts.{AreApart}
 use Rattle.pl_bounds.specs.Ties.{placed_at}
 use Rattle.pl_bounds.proofs.Indexed.{conflicts_from, as_many, each_from, all_apart}
 use Rattle.pl_bounds.proofs.Partners as partners
 use Rattle.pl_bounds.proofs.Partners.{leaf_by_length}
-use Rattle.pl_bounds.proofs.Shifting.{by_replacing}
+use Rattle.pl_bounds.proofs.Shifting.{by_replacing, may_replace}
 use Rattle.pl_bounds.proofs.Slots.{only_there, found_passing, found_changed}
-use Rattle.pl_bounds.proofs.Unmet.{unmet_one, unmet_stands}
+use Rattle.pl_bounds.proofs.Misplaced.{unmet_one, unmet_stands}
+
+-- as many different conflicts of orders of the parent, which stand after the shift
+pub record LeavesUnmet (s : PlanState) (id to : ℕ) (ks : List Conflict) : Type 0 where
+  pub many : length ks ≡ unmet_then s to (option_map (placed_of s) (found s id))
+  pub apart : AreApart ks
+  pub stand : (q : Conflict) → has q ks ≡ true → has q (link_conflicts (applied s (Shift id to))) ≡ true
+  pub linked : (q : Conflict) → has q ks ≡ true → q.code ≡ Linked
+  pub above : (q : Conflict) → has q ks ≡ true → parent_of id s.plan.activities ≡ Some q.subject
 
 -- no conflict is left where there is no order
 none_unmet : (s : PlanState) (id to : ℕ) → unmet_then s to (option_map (placed_of s) (found s id)) ≡ 0 → LeavesUnmet s id to []
@@ -62,6 +72,9 @@ module _ (s : PlanState) (whole : IsWhole s) (next : s.next_id ≤ 3999999000) (
 
   placed_own : child ≡ placed_of t own
   placed_own = partners.placed_own s whole next id to top here can leaf
+
+  whole_then : IsWhole t
+  whole_then = whole_replaced s (subtree_of id xs) (moved_with s to (found s id)) whole (may_replace s whole next id to top here can)
 
   itself_then : one top ≡ own
   itself_then =
@@ -88,9 +101,12 @@ module _ (s : PlanState) (whole : IsWhole s) (next : s.next_id ≤ 3999999000) (
     live : found s a.id ≡ Some a
     live = found_live parent xs a there
 
+    named : parent_of id xs ≡ Some parent
+    named = ap (option_and_then parent_in) here ∙ ap parent_id place
+
     smaller : a.id < id
     smaller =
-        let above : parent < id = (parent_smaller xs whole.fits.rooted id parent (ap (option_and_then parent_in) here ∙ ap parent_id place)).1 in
+        let above : parent < id = (parent_smaller xs whole.fits.rooted id parent named).1 in
         subst (λ (n : ℕ). n < id) (sym is_it) above
 
     no_child : a.id ≡ id → ⊥
@@ -188,7 +204,7 @@ module _ (s : PlanState) (whole : IsWhole s) (next : s.next_id ≤ 3999999000) (
     each_stands j order is passes =
         let both = and_parts (speaks_of (placed_of s a) child order) (is_missed (placed_in s) (placed_of s a) child order) passes in
         let is_then : slice_get (orders_of t.model (placed_of t a)) j ≡ Some order = ap (λ (p : Placed). slice_get (orders_of s.model p) j) same_placed ∙ is in
-        unmet_stands t a (partners.whole_then s whole next id to top here can leaf).rising live_then j order is_then (unmet_too order both.1) (goes_ahead order both.0)
+        unmet_stands t a whole_then.rising live_then j order is_then (unmet_too order both.1) (goes_ahead order both.0)
 
     number : unmet_then s to (option_map (placed_of s) (found s id)) ≡ length (filter test orders)
     number =
@@ -201,12 +217,12 @@ module _ (s : PlanState) (whole : IsWhole s) (next : s.next_id ≤ 3999999000) (
       many = as_many test (unmet_one t a) 0 orders ∙ sym number;
       apart = all_apart test (unmet_one t a) (λ i order. refl) 0 orders;
       stand = λ q e.
-          subst (λ (w : PlanState). has q (link_conflicts w) ≡ true) (sym (by_replacing s whole next id to top here can).is)
+          subst (λ (w : PlanState). has q (link_conflicts w) ≡ true) (by_replacing s whole next id to top here can).is
           (each_from test (unmet_one t a) (λ (k : Conflict). has k (link_conflicts t) ≡ true) 0 orders (λ j order is passes. let zero : 0 + j ≡ j = omega arith in subst (λ (n : ℕ). has (unmet_one t a n order) (link_conflicts t) ≡ true) (sym zero) (each_stands j order is passes)) q e);
       linked = λ q e. each_from test (unmet_one t a) (λ (k : Conflict). k.code ≡ Linked) 0 orders (λ j order is passes. refl) q e;
       above = λ q e.
           let of : q.subject ≡ parent = each_from test (unmet_one t a) (λ (k : Conflict). k.subject ≡ parent) 0 orders (λ j order is passes. is_it) q e in
-          subst (λ (o : Option Activity). IfSome o (λ z. IfSome z.parent (λ p. q.subject ≡ p.0))) (sym here) (subst (λ (o : Option (ℕ × ℕ)). IfSome o (λ p. q.subject ≡ p.0)) (sym place) of);
+          named ∙ ap (λ (n : ℕ). Some n) (sym of);
     }
 
 -- what a shift of an activity alone leaves of its parent's orders

@@ -235,7 +235,7 @@ module _ (s : PlanState) (whole : IsWhole s) (next : s.next_id ≤ 3999999000) (
 
   -- ---- together
 
-  pub whole_then : IsWhole t
+  whole_then : IsWhole t
   whole_then = whole_replaced s (subtree_of id xs) (moved_with s to (found s id)) whole (may_replace s whole next id to top here can)
 
   among_links : (q : Conflict) → has q (link_conflicts t) ≡ true → has q (filter is_link (conflicts_of t)) ≡ true

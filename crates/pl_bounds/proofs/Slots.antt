@@ -19,6 +19,15 @@ use Rattle.pl_semantics.specs.Whole.{IsWhole}
 
 -- ---- the first that passes a test
 
+module _ {X : Type 0} (f : X → Bool) where
+  pub found_passing : (P : X → Type 0) (xs : List X) → All P xs → (x : X) → find f xs ≡ Some x → (f x ≡ true) × P x
+  found_passing P [] all y is = absurd (cc)
+  found_passing P (x ∷ xs) all y is = by (f x) refl is (found_passing P xs (All-tail P x xs all) y)
+    where
+      by : (b : Bool) → f x ≡ b → cond b (Some x) (find f xs) ≡ Some y → (find f xs ≡ Some y → (f y ≡ true) × P y) → (f y ≡ true) × P y
+      by true e h more = let same : x ≡ y = cc in (ap f (sym same) ∙ e, subst P same (All-head P x xs all))
+      by false e h more = more h
+
 module _ (f : Activity → Bool) where
   some_passes : (xs : List Activity) (id : ℕ) (a : Activity) → activity_of id xs ≡ Some a → f a ≡ true → 1 ≤ length (filter f xs)
   some_passes [] id a is passes = absurd (cc)
@@ -38,14 +47,6 @@ module _ (f : Activity → Bool) where
       by true e false less h more = absurd (let some : 1 ≤ length (filter f xs) = some_passes xs id a h passes in omega (arith, less, some))
       by false e true less h more = absurd (let same : x ≡ a = cc in let bad : false ≡ true = sym e ∙ (ap f same ∙ passes) in cc)
       by false e false less h more = more less h passes
-
-  pub found_passing : (P : Activity → Type 0) (xs : List Activity) → All P xs → (a : Activity) → find f xs ≡ Some a → (f a ≡ true) × P a
-  found_passing P [] all a is = absurd (cc)
-  found_passing P (x ∷ xs) all a is = by (f x) refl is (found_passing P xs (All-tail P x xs all) a)
-    where
-      by : (b : Bool) → f x ≡ b → cond b (Some x) (find f xs) ≡ Some a → (find f xs ≡ Some a → (f a ≡ true) × P a) → (f a ≡ true) × P a
-      by true e h more = let same : x ≡ a = cc in (ap f (sym same) ∙ e, subst P same (All-head P x xs all))
-      by false e h more = more h
 
   pub found_changed : (change : Activity → Activity) → ((x : Activity) → f (change x) ≡ f x) → (xs : List Activity) → find f (map change xs) ≡ option_map change (find f xs)
   found_changed change same [] = refl

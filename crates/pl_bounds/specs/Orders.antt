@@ -1,20 +1,14 @@
 -- Orders of slots that are not met once a child is moved alone to another start, while its parent and the parent's other children stay.
-use Rattle.std.specs.Prelude.{◌≡◌, ℕ, ◌&&◌, ◌||◌, if◌then◌else◌, Bool, true, false, List, filter, length, Option, Some, None, IfSome, option_and_then}
+use Rattle.std.specs.Prelude.{ℕ, ◌&&◌, ◌||◌, if◌then◌else◌, Bool, false, List, filter, length, Option, Some, None, option_and_then}
 use Rattle.std.specs.Option.{option_map}
-use Rattle.pl_conflict.specs.declared.conflict.Conflict.{Conflict}
-use Rattle.pl_conflict.specs.declared.conflict.Code.TheVariants.{Linked}
-use Rattle.pl_conflict.specs.Order.{has}
 use Rattle.pl_model.specs.declared.reservations.Point.{Point}
 use Rattle.pl_model.specs.declared.alternatives.Order.{Order}
 use Rattle.pl_links.specs.declared.placed.Placed.{Placed}
 use Rattle.pl_links.specs.Items.{fills, child_of}
 use Rattle.pl_links.specs.Broken.{moment_of, are_misplaced, orders_of}
-use Rattle.pl_plan.specs.declared.repair.RepairMove.TheVariants.{Shift}
 use Rattle.pl_semantics.specs.declared.plan_state.PlanState.{PlanState}
-use Rattle.pl_semantics.specs.Links.{placed_of, placed_in, link_conflicts}
-use Rattle.pl_semantics.specs.Moves.{applied}
+use Rattle.pl_semantics.specs.Links.{placed_of, placed_in}
 use Rattle.pl_semantics.specs.PlanStates.{found}
-use Rattle.pl_bounds.specs.Counts.{AreApart}
 use Rattle.pl_bounds.specs.Ties.{placed_at}
 
 -- ---- one order
@@ -55,13 +49,3 @@ unmet_above s child (Some place) = unmet_under s child (option_map (placed_of s)
 abbrev pub unmet_then : PlanState → ℕ → Option Placed → ℕ
 unmet_then s start None = 0
 unmet_then s start (Some p) = unmet_above s (placed_at start p) p.parent
-
--- ---- their conflicts
-
--- as many different conflicts of orders of the parent, which stand after the shift
-pub record LeavesUnmet (s : PlanState) (id to : ℕ) (ks : List Conflict) : Type 0 where
-  pub many : length ks ≡ unmet_then s to (option_map (placed_of s) (found s id))
-  pub apart : AreApart ks
-  pub stand : (q : Conflict) → has q ks ≡ true → has q (link_conflicts (applied s (Shift id to))) ≡ true
-  pub linked : (q : Conflict) → has q ks ≡ true → q.code ≡ Linked
-  pub above : (q : Conflict) → has q ks ≡ true → IfSome (found s id) (λ top. IfSome top.parent (λ p. q.subject ≡ p.0))

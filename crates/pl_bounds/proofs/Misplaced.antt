@@ -1,6 +1,6 @@
 -- An order that is not met is a conflict of the parent, if the parent or one of the order's ends is ahead.
 use Rattle.std.proofs.Common.{◌≡◌, ℕ, zero, suc, ◌<◌, Bool, true, false, eqb, List, [], ◌∷◌, ◌++◌, length, max, min, find, Option, Some, None, refl, sym, ap, ◌∙◌, subst, arith}
-use Rattle.std.specs.Prelude.{◌||◌, slice_get, option_and_then}
+use Rattle.std.specs.Prelude.{◌||◌, ℤ, IfSome, slice_get, option_and_then}
 use Rattle.std.specs.List.{flat_map}
 use Rattle.std.specs.Option.{option_map}
 use Rattle.std.proofs.lemmas.Bool.{eqb-true, eqb-false, or_left, or_right}
@@ -25,7 +25,7 @@ use Rattle.pl_semantics.specs.PlanStates as states
 use Rattle.pl_semantics.specs.PlanStates.{found, of_found, is_ahead}
 use Rattle.pl_semantics.specs.Links.{placed_of, placed_in, place_in, order_at, unmet_from, unmet_order, conflict_of, links_at, link_conflicts}
 use Rattle.pl_semantics.proofs.Standing.{links_by_subject}
-use Rattle.pl_bounds.proofs.Lonely.{flat_append}
+use Rattle.pl_bounds.proofs.Lonely.{among_all, flat_append}
 
 -- two moments that are misplaced are both there
 both_there : (low high : ℤ) (a b : Option ℕ) → are_misplaced low high a b ≡ true → (m : ℕ) × (n : ℕ) × (a ≡ Some m) × (b ≡ Some n)
@@ -33,7 +33,13 @@ both_there low high None b e = absurd (let bad : false ≡ true = e in cc)
 both_there low high (Some m) None e = absurd (let bad : false ≡ true = e in cc)
 both_there low high (Some m) (Some n) e = (m, n, refl, refl)
 
-start_at : Option Activity → ℕ
+-- the same where the moments are known by what was found
+pub misplaced_too : (low high : ℤ) (a b x y : Option ℕ) → IfSome a (λ (m : ℕ). x ≡ Some m) → IfSome b (λ (n : ℕ). y ≡ Some n) → are_misplaced low high a b ≡ true → are_misplaced low high x y ≡ true
+misplaced_too low high None b x y one two e = absurd (let bad : false ≡ true = e in cc)
+misplaced_too low high (Some m) None x y one two e = absurd (let bad : false ≡ true = e in cc)
+misplaced_too low high (Some m) (Some n) x y one two e = ap (λ (o : Option ℕ). are_misplaced low high o y) one ∙ (ap (λ (o : Option ℕ). are_misplaced low high (Some m) o) two ∙ e)
+
+abbrev pub start_at : Option Activity → ℕ
 start_at None = 0
 start_at (Some a) = a.start
 
@@ -104,19 +110,10 @@ module _ (t : PlanState) (a : Activity) where
           ∙ (ap (λ (l : List Conflict). has (unmet_one j order) (l ++ [])) (of_order j order unmet ahead)
           ∙ or_left (same (unmet_one j order) (unmet_one j order)) false (same_itself (unmet_one j order))))
 
-  below : (q : Conflict) (n j : ℕ) → j < n → has q (flat_map (conflict_of t a) (broken_at items own links orders j)) ≡ true → has q (flat_map (conflict_of t a) (broken_below items own links orders n)) ≡ true
-  below q zero j lt there = absurd (omega (arith, lt))
-  below q (suc n) j lt there = flat_append (conflict_of t a) (broken_below items own links orders n) (broken_at items own links orders n) q ∙ by (eqb j n) refl (below q n j)
-    where
-      by : (b : Bool) → eqb j n ≡ b → (j < n → has q (flat_map (conflict_of t a) (broken_at items own links orders j)) ≡ true → has q (flat_map (conflict_of t a) (broken_below items own links orders n)) ≡ true)
-          → (has q (flat_map (conflict_of t a) (broken_below items own links orders n)) || has q (flat_map (conflict_of t a) (broken_at items own links orders n))) ≡ true
-      by true e more = or_right (has q (flat_map (conflict_of t a) (broken_below items own links orders n))) _ (subst (λ (m : ℕ). has q (flat_map (conflict_of t a) (broken_at items own links orders m)) ≡ true) (eqb-true j n e) there)
-      by false e more = or_left _ (has q (flat_map (conflict_of t a) (broken_at items own links orders n))) (more (let other : j ≡ n → ⊥ = eqb-false j n e in grind (arith, other, lt)) there)
-
   pub unmet_stands : AreRising t.plan.activities → found t a.id ≡ Some a → (j : ℕ) (order : Order) → slice_get orders j ≡ Some order → is_unmet items own order ≡ true → IsAheadBy order → has (unmet_one j order) (link_conflicts t) ≡ true
   unfolding links_at
   unmet_stands rising live j order is unmet ahead =
       let low : j < length orders = slice_get_within orders j order is in
       links_by_subject t rising (unmet_one j order)
       ∙ (ap (λ (o : Option Activity). has (unmet_one j order) (of_found (links_at t) o)) live
-      ∙ below (unmet_one j order) (max (length links) (length orders)) j (omega (arith, low)) (here j order is unmet ahead))
+      ∙ among_all t a links orders (unmet_one j order) (max (length links) (length orders)) j (omega (arith, low)) (here j order is unmet ahead))
