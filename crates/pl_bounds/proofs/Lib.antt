@@ -42,3 +42,10 @@ pub mod Slots
 pub mod Indexed
 pub mod Misplaced
 pub mod Ordered
+pub mod Breaking
+pub mod Replacing
+pub mod Beside
+pub mod Gathered
+pub mod Remaining
+pub mod Together
+pub mod Listed

@@ -1,12 +1,12 @@
--- Links of one activity that find no partner: each is a conflict, and no two are the same.
-use Rattle.std.proofs.Common.{◌≡◌, ℕ, zero, suc, ◌+◌, ◌<◌, ◌≤◌, Bool, true, false, cond, eqb, List, [], ◌∷◌, ◌++◌, filter, length, Option, Some, refl, sym, ap, ◌∙◌, subst, arith, max}
+-- Links of one activity that find no partner: each is a conflict.
+use Rattle.std.proofs.Common.{◌≡◌, ℕ, zero, suc, ◌<◌, Bool, true, false, eqb, List, [], ◌∷◌, ◌++◌, length, Option, Some, refl, sym, ap, ◌∙◌, subst, arith, max}
 use Rattle.std.specs.Prelude.{◌||◌, slice_get}
 use Rattle.std.specs.List.{flat_map}
-use Rattle.std.proofs.lemmas.Bool.{eqb-true, eqb-false, false_from_ne_true, or_left, or_right}
+use Rattle.std.proofs.lemmas.Bool.{eqb-true, eqb-false, or_left, or_right}
 use Rattle.std.proofs.Math.Bool.{or_assoc}
 use Rattle.pl_conflict.specs.declared.conflict.Conflict.{Conflict}
 use Rattle.pl_conflict.specs.Order.{has}
-use Rattle.pl_conflict.proofs.Sorting.{same, same_is, has-append, same_itself}
+use Rattle.pl_conflict.proofs.Sorting.{same, has-append, same_itself}
 use Rattle.pl_model.specs.declared.links.Link.{Link}
 use Rattle.pl_model.specs.declared.alternatives.Order.{Order}
 use Rattle.pl_links.specs.declared.placed.Placed.{Placed}
@@ -19,7 +19,7 @@ use Rattle.pl_semantics.specs.PlanStates as states
 use Rattle.pl_semantics.specs.PlanStates.{found, of_found, is_ahead}
 use Rattle.pl_semantics.specs.Links.{placed_of, placed_in, lone, conflict_of, links_at, link_conflicts}
 use Rattle.pl_semantics.proofs.Standing.{links_by_subject}
-use Rattle.pl_bounds.specs.Counts.{AreApart}
+use Rattle.pl_bounds.proofs.Indexed.{conflicts_from}
 
 -- ---- one that is broken is a conflict
 
@@ -83,48 +83,8 @@ module _ (t : PlanState) (a : Activity) (ahead : is_ahead t a ≡ true) where
 
 -- ---- those of some links
 
-module _ (a : Activity) (is_lone : Link → Bool) where
-  abbrev pub lones_from : ℕ → List Link → List Conflict
-  lones_from i [] = []
-  lones_from i (l ∷ ls) = cond (is_lone l) (lone a i ∷ lones_from (suc i) ls) (lones_from (suc i) ls)
+abbrev pub lone_one : Activity → ℕ → Link → Conflict
+lone_one a i l = lone a i
 
-  pub as_many : (i : ℕ) (ls : List Link) → length (lones_from i ls) ≡ length (filter is_lone ls)
-  as_many i [] = refl
-  as_many i (l ∷ ls) = by (is_lone l) (as_many (suc i) ls)
-    where
-      by : (b : Bool) → length (lones_from (suc i) ls) ≡ length (filter is_lone ls) → length (cond b (lone a i ∷ lones_from (suc i) ls) (lones_from (suc i) ls)) ≡ length (cond b (l ∷ filter is_lone ls) (filter is_lone ls))
-      by true more = ap (λ (n : ℕ). suc n) more
-      by false more = more
-
-  -- each stands that is so
-  pub each_from : (P : Conflict → Type 0) (i : ℕ) (ls : List Link) → ((j : ℕ) (l : Link) → slice_get ls j ≡ Some l → is_lone l ≡ true → P (lone a (i + j))) → (q : Conflict) → has q (lones_from i ls) ≡ true → P q
-  each_from P i [] all q e = absurd (cc)
-  each_from P i (l ∷ ls) all q e = by (is_lone l) refl e (each_from P (suc i) ls later q)
-    where
-      later : (j : ℕ) (k : Link) → slice_get ls j ≡ Some k → is_lone k ≡ true → P (lone a (suc i + j))
-      later j k is lonely = let same_place : i + suc j ≡ suc i + j = omega arith in subst (λ (n : ℕ). P (lone a n)) same_place (all (suc j) k is lonely)
-
-      first : is_lone l ≡ true → P (lone a i)
-      first lonely = let place : i + 0 ≡ i = omega arith in subst (λ (n : ℕ). P (lone a n)) place (all 0 l refl lonely)
-
-      by : (b : Bool) → is_lone l ≡ b → has q (cond b (lone a i ∷ lones_from (suc i) ls) (lones_from (suc i) ls)) ≡ true → (has q (lones_from (suc i) ls) ≡ true → P q) → P q
-      by true lonely h more = here (same q (lone a i)) refl h
-        where
-          here : (c : Bool) → same q (lone a i) ≡ c → (c || has q (lones_from (suc i) ls)) ≡ true → P q
-          here true is h2 = subst P (sym (same_is q (lone a i) is)) (first lonely)
-          here false is h2 = more h2
-      by false lonely h more = more h
-
-  later_ones : (i : ℕ) (ls : List Link) (q : Conflict) → has q (lones_from i ls) ≡ true → i ≤ q.detail
-  later_ones i ls q e = each_from (λ (k : Conflict). i ≤ k.detail) i ls (λ j l is lonely. omega arith) q e
-
-  pub lones_differ : (i : ℕ) (ls : List Link) → AreApart (lones_from i ls)
-  lones_differ i [] = tt
-  lones_differ i (l ∷ ls) = by (is_lone l) (lones_differ (suc i) ls)
-    where
-      none : has (lone a i) (lones_from (suc i) ls) ≡ false
-      none = false_from_ne_true (has (lone a i) (lones_from (suc i) ls)) (λ e. absurd (let low : suc i ≤ i = later_ones (suc i) ls (lone a i) e in omega (arith, low)))
-
-      by : (b : Bool) → AreApart (lones_from (suc i) ls) → AreApart (cond b (lone a i ∷ lones_from (suc i) ls) (lones_from (suc i) ls))
-      by true rest = (none, rest)
-      by false rest = rest
+abbrev pub lones_from : Activity → (Link → Bool) → ℕ → List Link → List Conflict
+lones_from a is_lone i ls = conflicts_from is_lone (lone_one a) i ls

@@ -33,8 +33,8 @@ use Rattle.pl_semantics.proofs.Found.{found_id, found_live}
 use Rattle.pl_update.proofs.AboutChanges.Keeping.{whole_replaced}
 use Rattle.pl_moves.specs.Runs.{CanBeMade}
 use Rattle.pl_bounds.specs.Orders.{is_moved, speaks_of, moment_with, is_missed, is_unmet_with, unmet_under, unmet_above, unmet_then}
-use Rattle.pl_bounds.specs.Counts.{AreApart}
 use Rattle.pl_bounds.specs.Ties.{placed_at}
+use Rattle.pl_bounds.proofs.Gathered.{AreLinks}
 use Rattle.pl_bounds.proofs.Indexed.{conflicts_from, as_many, each_from, all_apart}
 use Rattle.pl_bounds.proofs.Partners as partners
 use Rattle.pl_bounds.proofs.Partners.{leaf_by_length}
@@ -45,14 +45,13 @@ use Rattle.pl_bounds.proofs.Misplaced.{unmet_one, unmet_stands}
 -- as many different conflicts of orders of the parent, which stand after the shift
 pub record LeavesUnmet (s : PlanState) (id to : ℕ) (ks : List Conflict) : Type 0 where
   pub many : length ks ≡ unmet_then s to (option_map (placed_of s) (found s id))
-  pub apart : AreApart ks
-  pub stand : (q : Conflict) → has q ks ≡ true → has q (link_conflicts (applied s (Shift id to))) ≡ true
+  pub are : AreLinks (applied s (Shift id to)) ks
   pub linked : (q : Conflict) → has q ks ≡ true → q.code ≡ Linked
   pub above : (q : Conflict) → has q ks ≡ true → parent_of id s.plan.activities ≡ Some q.subject
 
 -- no conflict is left where there is no order
 none_unmet : (s : PlanState) (id to : ℕ) → unmet_then s to (option_map (placed_of s) (found s id)) ≡ 0 → LeavesUnmet s id to []
-none_unmet s id to none = record { many = sym none; apart = tt; stand = λ q e. absurd (cc); linked = λ q e. absurd (cc); above = λ q e. absurd (cc) }
+none_unmet s id to none = record { many = sym none; are = record { apart = tt; stand = λ q e. absurd (cc) }; linked = λ q e. absurd (cc); above = λ q e. absurd (cc) }
 
 module _ (s : PlanState) (whole : IsWhole s) (next : s.next_id ≤ 3999999000) (id to : ℕ) (top : Activity) (here : found s id ≡ Some top) (can : CanBeMade s (Shift id to)) (leaf : subtree_of id s.plan.activities ≡ id ∷ []) where
   abbrev xs : List Activity
@@ -215,10 +214,10 @@ module _ (s : PlanState) (whole : IsWhole s) (next : s.next_id ≤ 3999999000) (
     pub leaves_all : LeavesUnmet s id to all
     leaves_all = record {
       many = as_many test (unmet_one t a) 0 orders ∙ sym number;
-      apart = all_apart test (unmet_one t a) (λ i order. refl) 0 orders;
-      stand = λ q e.
-          subst (λ (w : PlanState). has q (link_conflicts w) ≡ true) (by_replacing s whole next id to top here can).is
-          (each_from test (unmet_one t a) (λ (k : Conflict). has k (link_conflicts t) ≡ true) 0 orders (λ j order is passes. let zero : 0 + j ≡ j = omega arith in subst (λ (n : ℕ). has (unmet_one t a n order) (link_conflicts t) ≡ true) (sym zero) (each_stands j order is passes)) q e);
+      are = subst (λ (w : PlanState). AreLinks w all) (by_replacing s whole next id to top here can).is (record {
+        apart = all_apart test (unmet_one t a) (λ i order. refl) 0 orders;
+        stand = λ q e. each_from test (unmet_one t a) (λ (k : Conflict). has k (link_conflicts t) ≡ true) 0 orders (λ j order is passes. let zero : 0 + j ≡ j = omega arith in subst (λ (n : ℕ). has (unmet_one t a n order) (link_conflicts t) ≡ true) (sym zero) (each_stands j order is passes)) q e;
+      });
       linked = λ q e. each_from test (unmet_one t a) (λ (k : Conflict). k.code ≡ Linked) 0 orders (λ j order is passes. refl) q e;
       above = λ q e.
           let of : q.subject ≡ parent = each_from test (unmet_one t a) (λ (k : Conflict). k.subject ≡ parent) 0 orders (λ j order is passes. is_it) q e in

@@ -4,12 +4,9 @@ use Rattle.std.specs.Prelude.{◌&&◌, ◌||◌, not, All, is_some, slice_get}
 use Rattle.std.specs.List.{list_any}
 use Rattle.std.specs.Option.{option_map}
 use Rattle.std.proofs.lemmas.Bool.{eq-eqb, eqb-true, eqb-false, leb-true}
-use Rattle.std.proofs.lemmas.Option.{slice_get_within}
 use Rattle.std.proofs.lemmas.List.Elements.{All-nil, All-cons, All-head, All-tail}
-use Rattle.std.proofs.lemmas.List.Kept.{IsStrictlySortedBy-filter}
 use Rattle.std.proofs.Math.Bool.{or-true}
 use Rattle.pl_conflict.specs.declared.conflict.Conflict.{Conflict}
-use Rattle.pl_conflict.specs.Order.{conflict_cmp, has}
 use Rattle.pl_model.specs.declared.links.Link.{Link}
 use Rattle.pl_links.specs.declared.placed.Placed.{Placed}
 use Rattle.pl_links.specs.Broken.{moment_of, are_apart, is_partner, lacks_partner, links_of}
@@ -24,27 +21,20 @@ use Rattle.pl_plan.proofs.Climbs.{all_at}
 use Rattle.pl_plan.proofs.Kept.{each_found}
 use Rattle.pl_plan.proofs.TreeLaws.{descends_complete}
 use Rattle.pl_semantics.specs.declared.plan_state.PlanState.{PlanState}
-use Rattle.pl_semantics.specs.Conflicts.{conflicts_of}
-use Rattle.pl_semantics.specs.Goals.{goal_conflicts}
-use Rattle.pl_semantics.specs.Activities.{activity_conflicts}
 use Rattle.pl_semantics.specs.Legal.{MayBeMade}
-use Rattle.pl_semantics.specs.Links.{placed_of, placed_in, lone, link_conflicts}
+use Rattle.pl_semantics.specs.Links.{placed_of, placed_in}
 use Rattle.pl_semantics.specs.Moves.{applied, moved, moved_with}
-use Rattle.pl_semantics.specs.Parts.{Part}
 use Rattle.pl_semantics.specs.PlanStates.{found, end_at, is_ahead, is_committed, floor_of}
-use Rattle.pl_semantics.specs.Timelines.{timeline_conflicts}
 use Rattle.pl_semantics.specs.Whole.{IsWhole}
 use Rattle.pl_semantics.proofs.Refusing.{may}
-use Rattle.pl_semantics.proofs.Standing.{ordered, members, of_links_alone}
 use Rattle.pl_update.specs.Changes.Replaced.{with_plan}
 use Rattle.pl_update.proofs.AboutChanges.Keeping.{whole_replaced}
 use Rattle.pl_moves.specs.Runs.{CanBeMade}
 use Rattle.pl_bounds.specs.Moved.{moved_to}
-use Rattle.pl_bounds.specs.Ties.{placed_at, count_of_lone, lone_then, is_link, is_link_part, count_of_links}
-use Rattle.pl_bounds.proofs.Counted.{held_are_few}
-use Rattle.pl_bounds.proofs.Lonely.{lone_stands, lones_from, as_many, each_from, lones_differ}
+use Rattle.pl_bounds.specs.Ties.{placed_at, count_of_lone, lone_then}
+use Rattle.pl_bounds.proofs.Gathered.{AreLone, gathered, none_lone}
+use Rattle.pl_bounds.proofs.Lonely.{lones_from}
 use Rattle.pl_bounds.proofs.Moving.{end_is}
-use Rattle.pl_bounds.proofs.Parts.{has_kept}
 use Rattle.pl_bounds.proofs.Shifting.{activities_then, found_then, rows_same, is_id, may_replace, by_replacing, unmeasured_under}
 
 -- ---- lists
@@ -238,41 +228,26 @@ module _ (s : PlanState) (whole : IsWhole s) (next : s.next_id ≤ 3999999000) (
   whole_then : IsWhole t
   whole_then = whole_replaced s (subtree_of id xs) (moved_with s to (found s id)) whole (may_replace s whole next id to top here can)
 
-  among_links : (q : Conflict) → has q (link_conflicts t) ≡ true → has q (filter is_link (conflicts_of t)) ≡ true
-  among_links q e =
-      let stands : has q (conflicts_of t) ≡ true =
-      members t q ∙ ap (λ (b : Bool). has q (goal_conflicts t) || (has q (activity_conflicts t) || (b || has q (timeline_conflicts t)))) e
-      ∙ rw (or-true (has q (activity_conflicts t)), or-true (has q (goal_conflicts t))) refl in
-      has_kept is_link (conflicts_of t) q (ap (λ (p : Part). is_link_part p) (of_links_alone t q e)) stands
-
   abbrev is_lone : Link → Bool
   is_lone l = lacks_partner (placed_in s) (placed_at to (placed_of s top)) l
 
-  abbrev links : List Link
-  links = links_of s.model (placed_of s top)
+  lone_ones : AreLone (applied s (Shift id to)) id (count_of_lone s to (placed_of s top)) (lones_from own is_lone 0 (links_of s.model (placed_of s top)))
+  lone_ones =
+      let then_ : AreLone t top.id (count_of_lone s to (placed_of s top)) (lones_from own is_lone 0 (links_of s.model (placed_of s top))) = gathered t whole_then.rising own ahead live_then is_lone lacks in
+      subst (λ (n : ℕ). AreLone (applied s (Shift id to)) n (count_of_lone s to (placed_of s top)) (lones_from own is_lone 0 (links_of s.model (placed_of s top)))) own_id
+      (subst (λ (w : PlanState). AreLone w top.id (count_of_lone s to (placed_of s top)) (lones_from own is_lone 0 (links_of s.model (placed_of s top)))) (by_replacing s whole next id to top here can).is then_)
 
-  lone_few : count_of_lone s to (placed_of s top) ≤ count_of_links t
-  lone_few =
-      let few : length (lones_from own is_lone 0 links) ≤ length (filter is_link (conflicts_of t)) =
-      held_are_few (lones_from own is_lone 0 links) (filter is_link (conflicts_of t)) (lones_differ own is_lone 0 links) (IsStrictlySortedBy-filter conflict_cmp is_link (conflicts_of t) (ordered t)) (each_from own is_lone (λ (q : Conflict). has q (filter is_link (conflicts_of t)) ≡ true) 0 links each) in
-      subst (λ (n : ℕ). n ≤ count_of_links t) (as_many own is_lone 0 links) few
-    where
-      each : (j : ℕ) (l : Link) → slice_get links j ≡ Some l → is_lone l ≡ true → has (lone own (0 + j)) (filter is_link (conflicts_of t)) ≡ true
-      each j l is lonely =
-          let zero : 0 + j ≡ j = omega arith in
-          subst (λ (n : ℕ). has (lone own n) (filter is_link (conflicts_of t)) ≡ true) (sym zero)
-          (among_links (lone own j) (lone_stands t own ahead whole_then.rising live_then j l (slice_get_within links j l is) is (lacks l lonely)))
+  lone_some : (alone : Option Placed) → alone ≡ Some (placed_of s top) → (ks : List Conflict) × AreLone (applied s (Shift id to)) id (lone_then s to alone) ks
+  lone_some alone is = (
+    lones_from own is_lone 0 (links_of s.model (placed_of s top)),
+    subst (λ (o : Option Placed). AreLone (applied s (Shift id to)) id (lone_then s to o) (lones_from own is_lone 0 (links_of s.model (placed_of s top)))) (sym is) lone_ones,
+  )
 
-  pub few_lone : (alone : Option Placed) → alone ≡ option_map (placed_of s) (found s id) → lone_then s to alone ≤ count_of_links (applied s (Shift id to))
-  few_lone alone is =
-      let own_is : alone ≡ Some (placed_of s top) = is ∙ ap (option_map (placed_of s)) here in
-      let few : lone_then s to alone ≤ count_of_links t = subst (λ (o : Option Placed). lone_then s to o ≤ count_of_links t) (sym own_is) lone_few in
-      subst (λ (w : PlanState). lone_then s to alone ≤ count_of_links w) (by_replacing s whole next id to top here can).is few
-
-pub few_alone : (s : PlanState) → IsWhole s → s.next_id ≤ 3999999000 → (id to : ℕ) → CanBeMade s (Shift id to) → length (subtree_of id s.plan.activities) ≡ 1 → (alone : Option Placed) → alone ≡ option_map (placed_of s) (found s id)
-    → lone_then s to alone ≤ count_of_links (applied s (Shift id to))
-few_alone s whole next id to can one alone is = by (found s id) refl
+pub lone_left : (s : PlanState) → IsWhole s → s.next_id ≤ 3999999000 → (id to : ℕ) → CanBeMade s (Shift id to) → length (subtree_of id s.plan.activities) ≡ 1 → (alone : Option Placed) → alone ≡ option_map (placed_of s) (found s id)
+    → (ks : List Conflict) × AreLone (applied s (Shift id to)) id (lone_then s to alone) ks
+lone_left s whole next id to can one alone is = by (found s id) refl
   where
-    by : (o : Option Activity) → found s id ≡ o → lone_then s to alone ≤ count_of_links (applied s (Shift id to))
-    by None none = let nothing : alone ≡ None = is ∙ ap (option_map (placed_of s)) none in let zero : lone_then s to alone ≡ 0 = ap (lone_then s to) nothing in omega (arith, zero)
-    by (Some top) here = few_lone s whole next id to top here can (leaf_by_length s whole id top here one) alone is
+    by : (o : Option Activity) → found s id ≡ o → (ks : List Conflict) × AreLone (applied s (Shift id to)) id (lone_then s to alone) ks
+    by None none = let nothing : alone ≡ None = is ∙ ap (option_map (placed_of s)) none in ([], none_lone (applied s (Shift id to)) id (lone_then s to alone) (ap (lone_then s to) nothing))
+    by (Some top) here =
+        lone_some s whole next id to top here can (leaf_by_length s whole id top here one) alone (is ∙ ap (option_map (placed_of s)) here)

@@ -33,3 +33,4 @@ pub mod Tallies
 pub mod Looks
 pub mod Ties
 pub mod Orders
+pub mod Remaining

@@ -79,7 +79,8 @@ fn least_by(board: &Board, outsides: &[Outside], run: &Run, mv: &RepairMove) -> 
     let steady = run.known.steady_at(start);
     let lone = lone_then(board, run.known.alone, start);
     let unmet = unmet_then(board, run.known.alone, start);
-    let least = steady.saturating_add(lone).saturating_add(unmet).saturating_add(others);
+    let links = run.known.untouched.saturating_add(lone).saturating_add(unmet);
+    let least = steady.saturating_add(links).saturating_add(others);
     least.max(least_left(board.state(), mv))
 }
 
@@ -141,7 +142,7 @@ fn bounds_of_each(
     requires allowed { All (CanBeMade board.now.state) moves.now }
     ensures { IfOk result (λ ns. AreLeast board.now.state moves.now ns.items) }
 {
-    let standing = standing_of(board);
+    let standing = standing_of(alloc, board)?;
     let mut past = outsides(alloc, board)?;
     let mut runs: Vec<Run> = Vec::new(alloc);
     let mut bounds = Vec::with_capacity(alloc, moves.len())?;

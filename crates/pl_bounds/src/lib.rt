@@ -9,6 +9,7 @@ mod bounds;
 mod elsewhere;
 mod known;
 mod laws;
+mod link_conflicts;
 mod looking;
 mod orders;
 mod outside;
@@ -28,6 +29,7 @@ mod ties;
 mod tying;
 mod unset;
 mod until;
+mod untouched;
 mod window;
 mod worsening;
 
