@@ -64,11 +64,11 @@ module _ (s : PlanState) (whole : IsWhole s) (id : ℕ) where
     parent_other n r itself up live = sym (ap (is_number p) up) ∙ apart
     parent_other n r (child m above its under) up live =
         ne_eqb r p (λ e. absurd (
-            let same : Some above ≡ Some r = sym its ∙ up in
-            let is : above ≡ r = cc in
-            let there : among r sub ≡ true = held s whole id r live (subst (λ (k : ℕ). Descends xs id k) is under) in
-            let bad : true ≡ false = sym there ∙ (ap (λ (k : ℕ). among k sub) e ∙ left) in
-            cc))
+        let same : Some above ≡ Some r = sym its ∙ up in
+        let is : above ≡ r = cc in
+        let there : among r sub ≡ true = held s whole id r live (subst (λ (k : ℕ). Descends xs id k) is under) in
+        let bad : true ≡ false = sym there ∙ (ap (λ (k : ℕ). among k sub) e ∙ left) in
+        cc))
 
     no_slot : (slot : ℕ) (y : Activity) → found s y.id ≡ Some y → among y.id sub ≡ true → fills p slot y ≡ false
     no_slot slot y live there = by y.parent refl

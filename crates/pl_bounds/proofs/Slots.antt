@@ -15,7 +15,7 @@ use Rattle.pl_detect.proofs.Stored.{child_is, slot_few}
 use Rattle.pl_semantics.specs.declared.plan_state.PlanState.{PlanState}
 use Rattle.pl_semantics.specs.Links.{placed_of, placed_in}
 use Rattle.pl_semantics.specs.PlanStates.{found}
-use Rattle.pl_semantics.specs.Whole.{IsWhole}
+use Rattle.pl_semantics.specs.Whole.{IsWhole, IsIdBelow}
 
 -- ---- the first that passes a test
 
@@ -75,3 +75,15 @@ module _ (s : PlanState) (whole : IsWhole s) where
           let same : placed_of s a ≡ c = cc in
           let place : a.parent ≡ Some (parent, slot) = ap (λ (p : Placed). p.parent) same ∙ place_is parent slot c.parent fill in
           child_is s parent slot s.plan.activities ∙ (ap (option_map (placed_of s)) (only_there id a here parent slot place) ∙ e)
+
+  -- what is placed under an id is below the next one
+  pub below_next : (id : ℕ) (c : Placed) → option_map (placed_of s) (found s id) ≡ Some c → id < s.next_id
+  below_next id c is = by (found s id) refl is
+    where
+      by : (o : Option Activity) → found s id ≡ o → option_map (placed_of s) o ≡ Some c → id < s.next_id
+      by None here e = absurd (cc)
+      by (Some a) here e =
+          let both = all_at (IsIdBelow s.next_id) s.plan.activities id a whole.ids here in
+          let less : a.id < s.next_id = both.0.1 in
+          let same : a.id ≡ id = both.1 in
+          omega (arith, less, same)

@@ -79,7 +79,11 @@ fn least_by(board: &Board, outsides: &[Outside], run: &Run, mv: &RepairMove) -> 
     let steady = run.known.steady_at(start);
     let lone = lone_then(board, run.known.alone, start);
     let unmet = unmet_then(board, run.known.alone, start);
-    let links = run.known.untouched.saturating_add(lone).saturating_add(unmet);
+    let links = run
+        .known
+        .untouched
+        .saturating_add(lone)
+        .saturating_add(unmet);
     let least = steady.saturating_add(links).saturating_add(others);
     least.max(least_left(board.state(), mv))
 }
