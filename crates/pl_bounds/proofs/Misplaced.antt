@@ -1,9 +1,9 @@
 -- An order that is not met is a conflict of the parent, if the parent or one of the order's ends is ahead.
-use Rattle.std.proofs.Common.{◌≡◌, ℕ, zero, suc, ◌<◌, Bool, true, false, eqb, List, [], ◌∷◌, ◌++◌, length, max, min, find, Option, Some, None, refl, sym, ap, ◌∙◌, subst, arith}
+use Rattle.std.proofs.Common.{◌≡◌, ℕ, ◌<◌, Bool, true, false, List, [], ◌∷◌, ◌++◌, length, max, min, find, Option, Some, None, refl, sym, ap, ◌∙◌, subst, arith}
 use Rattle.std.specs.Prelude.{◌||◌, ℤ, IfSome, slice_get, option_and_then}
 use Rattle.std.specs.List.{flat_map}
 use Rattle.std.specs.Option.{option_map}
-use Rattle.std.proofs.lemmas.Bool.{eqb-true, eqb-false, or_left, or_right}
+use Rattle.std.proofs.lemmas.Bool.{or_left, or_right}
 use Rattle.std.proofs.lemmas.Option.{slice_get_within}
 use Rattle.pl_conflict.specs.declared.conflict.Conflict.{Conflict}
 use Rattle.pl_conflict.specs.declared.conflict.Code.TheVariants.{Linked}
@@ -14,8 +14,7 @@ use Rattle.pl_model.specs.declared.alternatives.Order.{Order}
 use Rattle.pl_model.specs.declared.reservations.Point.{Point}
 use Rattle.pl_links.specs.declared.placed.Placed.{Placed}
 use Rattle.pl_links.specs.declared.broken.Broken.{Broken}
-use Rattle.pl_links.specs.Broken.{when, is_link_broken, is_order_broken, are_misplaced, moment_of, moment_in, is_unmet, broken_at, broken_below, links_of, orders_of}
-use Rattle.pl_links.specs.Items.{child_of}
+use Rattle.pl_links.specs.Broken.{when, is_link_broken, is_order_broken, are_misplaced, moment_of, moment_in, is_unmet, broken_at, links_of, orders_of}
 use Rattle.pl_plan.specs.declared.activity.Activity.{Activity}
 use Rattle.pl_plan.specs.Activities.{AreRising}
 use Rattle.pl_plan.specs.Fitting.{fills}
@@ -23,7 +22,7 @@ use Rattle.pl_detect.proofs.Stored.{child_is}
 use Rattle.pl_semantics.specs.declared.plan_state.PlanState.{PlanState}
 use Rattle.pl_semantics.specs.PlanStates as states
 use Rattle.pl_semantics.specs.PlanStates.{found, of_found, is_ahead}
-use Rattle.pl_semantics.specs.Links.{placed_of, placed_in, place_in, order_at, unmet_from, unmet_order, conflict_of, links_at, link_conflicts}
+use Rattle.pl_semantics.specs.Links.{placed_of, placed_in, place_in, unmet_from, unmet_order, conflict_of, links_at, link_conflicts}
 use Rattle.pl_semantics.proofs.Standing.{links_by_subject}
 use Rattle.pl_bounds.proofs.Lonely.{among_all, flat_append}
 

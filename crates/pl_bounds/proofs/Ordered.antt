@@ -1,9 +1,9 @@
 -- A shift of a child from which no other activity descends: the orders of its parent that speak of it and are not met at its new start
 -- are conflicts then.
-use Rattle.std.proofs.Common.{◌≡◌, ℕ, ◌+◌, ◌<◌, ◌≤◌, Bool, true, false, cond, eqb, List, [], ◌∷◌, map, filter, find, length, Option, Some, None, refl, sym, ap, ◌∙◌, subst, arith}
-use Rattle.std.specs.Prelude.{◌||◌, ◌&&◌, All, slice_get, option_and_then}
+use Rattle.std.proofs.Common.{◌≡◌, ℕ, ◌+◌, ◌<◌, ◌≤◌, Bool, true, false, cond, List, [], ◌∷◌, filter, find, length, Option, Some, None, refl, sym, ap, ◌∙◌, subst, arith}
+use Rattle.std.specs.Prelude.{◌||◌, slice_get, option_and_then}
 use Rattle.std.specs.Option.{option_map}
-use Rattle.std.proofs.lemmas.Bool.{and_parts, or_left}
+use Rattle.std.proofs.lemmas.Bool.{and_parts}
 use Rattle.std.proofs.Math.Bool.{or-true}
 use Rattle.pl_conflict.specs.declared.conflict.Conflict.{Conflict}
 use Rattle.pl_conflict.specs.declared.conflict.Code.TheVariants.{Linked}
@@ -14,15 +14,13 @@ use Rattle.pl_links.specs.declared.placed.Placed.{Placed}
 use Rattle.pl_links.specs.Items as links
 use Rattle.pl_links.specs.Items.{child_of}
 use Rattle.pl_links.specs.Broken.{are_misplaced, moment_of, moment_in, is_unmet, orders_of}
-use Rattle.pl_links.proofs.Slots.{place_is, slot_is}
+use Rattle.pl_links.proofs.Slots.{place_is}
 use Rattle.pl_plan.specs.declared.activity.Activity.{Activity}
 use Rattle.pl_plan.specs.declared.repair.RepairMove.TheVariants.{Shift}
 use Rattle.pl_plan.specs.Fitting.{fills}
 use Rattle.pl_plan.specs.Trees.{parent_in, parent_id, parent_of, subtree_of}
 use Rattle.pl_plan.proofs.Climbs.{all_at, parent_smaller}
 use Rattle.pl_plan.proofs.Kept.{each_found}
-use Rattle.pl_plan.proofs.TreeLaws.{descends_complete}
-use Rattle.pl_plan.specs.Trees.Descends.{itself}
 use Rattle.pl_detect.proofs.Stored.{child_is}
 use Rattle.pl_semantics.specs.declared.plan_state.PlanState.{PlanState}
 use Rattle.pl_semantics.specs.Links.{placed_of, placed_in, place_in, link_conflicts}
