@@ -1,6 +1,6 @@
 -- What a move of a subtree leaves beside it: no other activity but the parent of the uppermost has a child in it.
 use Rattle.std.proofs.Common.{◌≡◌, ℕ, eqb, Bool, true, false, List, [], ◌∷◌, map, filter, get_or, Option, Some, None, refl, sym, ap, ◌∙◌, subst}
-use Rattle.std.specs.Prelude.{◌&&◌, ◌||◌, All, Contains, option_and_then}
+use Rattle.std.specs.Prelude.{◌&&◌, ◌||◌, All, option_and_then}
 use Rattle.std.specs.List.{flat_map}
 use Rattle.std.proofs.lemmas.Bool.{eq-eqb, ne_eqb, or_from, or_left, or_right}
 use Rattle.std.proofs.lemmas.Bool.{eqb-true}
@@ -8,10 +8,10 @@ use Rattle.std.proofs.lemmas.List.Elements.{All-nil, All-cons, All-head, All-tai
 use Rattle.std.proofs.lemmas.Map.Views.{Contains-from_any}
 use Rattle.pl_lists.proofs.Tests.{or_first_false, or_second_false}
 use Rattle.pl_plan.specs.declared.activity.Activity.{Activity}
-use Rattle.pl_plan.specs.Activities.{activity_of, IsLive}
+use Rattle.pl_plan.specs.Activities.{IsLive}
 use Rattle.pl_plan.specs.Fitting.{fills, is_slot}
 use Rattle.pl_plan.specs.Index.{is_number}
-use Rattle.pl_plan.specs.Trees.{Descends, child, descends, id_of, itself, parent_id, parent_in, parent_of, subtree_of}
+use Rattle.pl_plan.specs.Trees.{Descends, child, id_of, itself, parent_id, parent_in, parent_of, subtree_of}
 use Rattle.pl_plan.proofs.Kept.{each_found}
 use Rattle.pl_plan.proofs.Members.{subtree_members}
 use Rattle.pl_plan.proofs.TreeLaws.{descends_sound}

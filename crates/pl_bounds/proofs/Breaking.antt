@@ -1,5 +1,5 @@
 -- A conflict of one activity's links and orders stands after a replacement where its link, or its orders, are broken then as before.
-use Rattle.std.proofs.Common.{◌≡◌, ℕ, zero, suc, Bool, true, false, List, [], ◌∷◌, ◌++◌, Option, Some, None, refl, sym, ap, ◌∙◌, max, length}
+use Rattle.std.proofs.Common.{◌≡◌, ℕ, zero, suc, Bool, true, false, List, [], ◌++◌, Option, Some, None, refl, sym, ap, ◌∙◌, max, length}
 use Rattle.std.specs.Prelude.{◌||◌, slice_get}
 use Rattle.std.specs.List.{flat_map}
 use Rattle.std.proofs.lemmas.Bool.{or_left, or_right}
@@ -10,14 +10,13 @@ use Rattle.pl_conflict.specs.Order.{has}
 use Rattle.pl_conflict.proofs.Sorting.{same, same_is, has-append}
 use Rattle.pl_model.specs.declared.links.Link.{Link}
 use Rattle.pl_model.specs.declared.alternatives.Order.{Order}
-use Rattle.pl_links.specs.declared.placed.Placed.{Placed}
 use Rattle.pl_links.specs.declared.broken.Broken.{Broken}
 use Rattle.pl_links.specs.Broken.{when, lacks_partner, is_unmet, is_link_broken, is_order_broken, broken_at, broken_below, links_of, orders_of}
 use Rattle.pl_plan.specs.declared.activity.Activity.{Activity}
 use Rattle.pl_semantics.specs.declared.plan_state.PlanState.{PlanState}
 use Rattle.pl_semantics.specs.PlanStates as states
 use Rattle.pl_semantics.specs.PlanStates.{of_found, is_ahead}
-use Rattle.pl_semantics.specs.Links.{placed_of, placed_in, lone, order_at, place_in, unmet_by, unmet_from, unmet_order, link_conflict, conflict_of, links_at}
+use Rattle.pl_semantics.specs.Links.{placed_of, placed_in, lone, order_at, place_in, unmet_from, unmet_order, link_conflict, conflict_of, links_at}
 use Rattle.pl_update.specs.Changes.Replaced.{with_plan}
 use Rattle.pl_bounds.proofs.Lonely.{flat_append}
 

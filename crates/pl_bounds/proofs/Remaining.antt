@@ -1,6 +1,6 @@
 -- A conflict of links that a move does not touch stands after it.
-use Rattle.std.proofs.Common.{◌≡◌, ℕ, ◌<◌, ◌≤◌, eqb, Bool, true, false, List, [], ◌∷◌, map, filter, Option, Some, None, refl, sym, ap, ◌∙◌, subst, arith}
-use Rattle.std.specs.Prelude.{◌&&◌, ◌||◌, All, not, slice_get, option_and_then}
+use Rattle.std.proofs.Common.{◌≡◌, ℕ, ◌<◌, ◌≤◌, eqb, true, false, List, [], ◌∷◌, map, filter, Option, Some, None, refl, sym, ap, ◌∙◌, subst, arith}
+use Rattle.std.specs.Prelude.{All, not, slice_get, option_and_then}
 use Rattle.std.specs.Option.{option_map}
 use Rattle.std.proofs.lemmas.Bool.{and_parts, ne_eqb, not-true, or_from}
 use Rattle.std.proofs.lemmas.List.Elements.{All-nil, All-cons}
@@ -10,7 +10,6 @@ use Rattle.pl_conflict.specs.declared.conflict.Code.{Code}
 use Rattle.pl_conflict.specs.declared.conflict.Code.TheVariants.{OpenGoal, OffGoal, Late, Unset, BadValue, Undetailed, Overrun, Temporal, Linked, Over, Low, High, Must, BadStep}
 use Rattle.pl_conflict.specs.Order.{has}
 use Rattle.pl_links.specs.Broken.{links_of}
-use Rattle.pl_model.specs.declared.links.Link.{Link}
 use Rattle.pl_plan.specs.declared.activity.Activity.{Activity}
 use Rattle.pl_plan.specs.declared.repair.RepairMove.TheVariants.{Add, Delete, Shift}
 use Rattle.pl_plan.specs.Fitting.{fills}
@@ -21,7 +20,7 @@ use Rattle.pl_semantics.specs.declared.plan_state.PlanState.{PlanState}
 use Rattle.pl_semantics.specs.Conflicts.{conflicts_of}
 use Rattle.pl_semantics.specs.Links.{links_at, link_conflicts, placed_of}
 use Rattle.pl_semantics.specs.Moves.{applied, moved_with, root_for}
-use Rattle.pl_semantics.specs.Parts.{Part, part_of, of_links}
+use Rattle.pl_semantics.specs.Parts.{part_of, of_links}
 use Rattle.pl_semantics.specs.PlanStates.{among, found, of_found}
 use Rattle.pl_semantics.specs.Whole.{IsIdBelow, IsWhole}
 use Rattle.pl_semantics.proofs.Found.{found_id}
@@ -30,10 +29,9 @@ use Rattle.pl_update.specs.Changes.Replaced.{CanReplace, with_plan}
 use Rattle.pl_update.proofs.AboutChanges.Keeping.{whole_replaced}
 use Rattle.pl_update.proofs.AboutLinks.Keeping.{shows_links}
 use Rattle.pl_update.proofs.AboutLinks.Lookups.{Fails}
-use Rattle.pl_moves.specs.Changes.{gone_by, placed_by}
 use Rattle.pl_moves.specs.Runs.{CanBeMade}
 use Rattle.pl_moves.proofs.Made.{IsMadeBy, made, can_replace}
-use Rattle.pl_bounds.specs.Remaining.{is_left, is_left_if, is_sure, is_untouched, kind_of_link, kind_sought, kinds_of, listed_by, sought_by, with_kind}
+use Rattle.pl_bounds.specs.Remaining.{is_left, is_left_if, is_untouched, kind_of_link, kind_sought, kinds_of, listed_by, sought_by, with_kind}
 use Rattle.pl_bounds.proofs.Beside.{ids_left, kinds_left, none_comes, none_goes}
 use Rattle.pl_bounds.proofs.Breaking.{links_keep, StaysLone, StayUnmet}
 use Rattle.pl_bounds.proofs.Differing.{has_passing}

@@ -1,9 +1,9 @@
 -- What a replacement leaves of other activities: their ends, that their links find no partner, and the orders of their children.
-use Rattle.std.proofs.Common.{◌≡◌, ℕ, eqb, ltb, Bool, true, false, cond, List, [], ◌∷◌, map, find, Option, Some, None, refl, sym, ap, ◌∙◌, subst}
+use Rattle.std.proofs.Common.{◌≡◌, ℕ, eqb, ltb, Bool, true, false, List, [], ◌∷◌, map, find, Option, Some, None, refl, sym, ap, ◌∙◌, subst}
 use Rattle.std.specs.Prelude.{◌&&◌, All, not, is_some, option_and_then}
 use Rattle.std.specs.List.{list_any}
 use Rattle.std.specs.Option.{option_map}
-use Rattle.std.proofs.lemmas.Bool.{eq-eqb, eqb-true, false_from_ne_true, or_from}
+use Rattle.std.proofs.lemmas.Bool.{eqb-true, false_from_ne_true, or_from}
 use Rattle.std.proofs.lemmas.List.Elements.{All-head, All-tail, All-weaker}
 use Rattle.std.proofs.Math.Bool.{and-false}
 use Rattle.pl_lists.proofs.Tests.{or_first_false, or_second_false}
@@ -23,9 +23,9 @@ use Rattle.pl_plan.proofs.Kept.{each_found}
 use Rattle.pl_semantics.specs.declared.plan_state.PlanState.{PlanState}
 use Rattle.pl_semantics.specs.PlanStates.{among, end_at, found, of_found}
 use Rattle.pl_semantics.specs.Whole.{IsWhole}
-use Rattle.pl_semantics.specs.Links.{placed_of, placed_in, place_in, order_at, unmet_from, unmet_order, link_conflict}
+use Rattle.pl_semantics.specs.Links.{placed_of, placed_in, place_in, order_at, unmet_from, unmet_order}
 use Rattle.pl_detect.proofs.Stored.{child_is}
-use Rattle.pl_update.specs.Changes.Replaced.{CanReplace, replaced, touched, with_plan}
+use Rattle.pl_update.specs.Changes.Replaced.{CanReplace, touched, with_plan}
 use Rattle.pl_update.specs.Links.Telling.{all_without}
 use Rattle.pl_update.specs.Links.Placing.{all_with}
 use Rattle.pl_update.proofs.AboutChanges.Finding.{found-replaced}
