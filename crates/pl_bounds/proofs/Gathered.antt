@@ -26,7 +26,8 @@ use Rattle.pl_bounds.specs.Counts.{AreApart}
 use Rattle.pl_bounds.specs.Ties.{is_link, is_link_part, count_of_links}
 use Rattle.pl_bounds.proofs.Counted.{held_are_few}
 use Rattle.pl_bounds.proofs.Differing.{apart_both}
-use Rattle.pl_bounds.proofs.Lonely.{lone_stands, lones_from, as_many, each_from, lones_differ}
+use Rattle.pl_bounds.proofs.Indexed.{all_apart, as_many, each_from}
+use Rattle.pl_bounds.proofs.Lonely.{lone_one, lone_stands, lones_from}
 use Rattle.pl_bounds.proofs.Parts.{has_kept}
 
 -- they differ, and each stands
@@ -85,9 +86,9 @@ module _ (t : PlanState) (rising : AreRising t.plan.activities) (a : Activity) (
 
   pub gathered : AreLone t a.id (length (filter is_lone links)) (lones_from a is_lone 0 links)
   gathered = record {
-    are = record { apart = lones_differ a is_lone 0 links; stand = each_from a is_lone (λ (q : Conflict). has q (link_conflicts t) ≡ true) 0 links each };
-    many = as_many a is_lone 0 links;
-    own = each_from a is_lone (λ (q : Conflict). (q.subject ≡ a.id) × (q.code ≡ Temporal)) 0 links (λ j l is lonely. (refl, refl));
+    are = record { apart = all_apart is_lone (lone_one a) (λ i l. refl) 0 links; stand = each_from is_lone (lone_one a) (λ (q : Conflict). has q (link_conflicts t) ≡ true) 0 links each };
+    many = as_many is_lone (lone_one a) 0 links;
+    own = each_from is_lone (lone_one a) (λ (q : Conflict). (q.subject ≡ a.id) × (q.code ≡ Temporal)) 0 links (λ j l is lonely. (refl, refl));
   }
     where
       each : (j : ℕ) (l : Link) → slice_get links j ≡ Some l → is_lone l ≡ true → has (lone a (0 + j)) (link_conflicts t) ≡ true

@@ -12,6 +12,7 @@ use Rattle.pl_semantics.specs.Whole.{IsWhole}
 use Rattle.pl_bounds.specs.Asked.{IsAlike}
 use Rattle.pl_bounds.specs.Askings.{IsAskingOf, root_alone}
 use Rattle.pl_bounds.specs.Known.{IsKnownOf, only_steady}
+use Rattle.pl_bounds.specs.Orders.{unmet_then}
 use Rattle.pl_bounds.specs.Plain.{count_of_plain}
 use Rattle.pl_bounds.specs.Standing.{IsLeftByNew, IsStandingOf}
 use Rattle.pl_bounds.specs.Windows.{IsLeftByShift, IsWindowOf, or_one_more}
@@ -33,23 +34,24 @@ module _ (s : PlanState) where
       → IsKnownOf s (record { first = Add kind start goal; steady = n; window = None; untouched = u; alone = Some own; asking = Some a })
   known_new whole next kind start goal can n left u few own is a going coming from = record {
     steady = each_new s (λ m. n + 0 ≤ count_of_plain (applied s m)) kind start goal (λ to there. let most = left to there in omega (arith, most));
-    links = each_new s (λ m. u + lone_then s (start_of m) (Some own) ≤ count_of_links (applied s m)) kind start goal
-        (λ to there. subst (λ (p : Placed). u + count_of_lone s to p ≤ count_of_links (applied s (Add kind to goal))) (sym is) (few_with_new s whole next kind to goal there _ _ (new_lone s whole next kind to goal there start can) u few));
+    links = each_new s (λ m. u + lone_then s (start_of m) (Some own) + unmet_then s (start_of m) (Some own) ≤ count_of_links (applied s m)) kind start goal
+        (λ to there. subst (λ (p : Placed). u + count_of_lone s to p + unmet_then s to (Some p) ≤ count_of_links (applied s (Add kind to goal))) (sym is)
+        (let all = few_with_new s whole next kind to goal there _ _ (new_lone s whole next kind to goal there start can) u few in omega (arith, all)));
     asking = addition_asks s whole next kind start goal can a going coming from;
   }
 
   pub known_deletion : (id n : ℕ) → n ≤ count_of_plain (applied s (Delete id)) → (u : ℕ) → u ≤ count_of_links (applied s (Delete id)) → (o : Option Asking) → IfSome o (λ a. IsAskingOf s (Delete id) a) → IsKnownOf s (record { first = Delete id; steady = n; window = None; untouched = u; alone = None; asking = o })
   known_deletion id n left u few o asks = record {
     steady = each_deletion s (λ m. n + 0 ≤ count_of_plain (applied s m)) id (omega (arith, left));
-    links = each_deletion s (λ m. u + 0 ≤ count_of_links (applied s m)) id (omega (arith, few));
+    links = each_deletion s (λ m. u + 0 + 0 ≤ count_of_links (applied s m)) id (omega (arith, few));
     asking = asks;
   }
 
-  pub known_shift : (id start n : ℕ) → IsLeftByShift s id n → (w : Option Window) → IfSome w (λ x. IsWindowOf s id x) → (u : ℕ) (own : Option Placed) → ((to : ℕ) → CanBeMade s (Shift id to) → u + lone_then s to own ≤ count_of_links (applied s (Shift id to)))
+  pub known_shift : (id start n : ℕ) → IsLeftByShift s id n → (w : Option Window) → IfSome w (λ x. IsWindowOf s id x) → (u : ℕ) (own : Option Placed) → ((to : ℕ) → CanBeMade s (Shift id to) → u + lone_then s to own + unmet_then s to own ≤ count_of_links (applied s (Shift id to)))
       → (o : Option Asking) → IfSome o (λ a. IsAskingOf s (Shift id start) a) → IsKnownOf s (record { first = Shift id start; steady = n; window = w; untouched = u; alone = own; asking = o })
   known_shift id start n left w window u own few o asks = record {
     steady = each_shift s (λ m. or_one_more w (start_of m) n ≤ count_of_plain (applied s m)) id start (left w window);
-    links = each_shift s (λ m. u + lone_then s (start_of m) own ≤ count_of_links (applied s m)) id start few;
+    links = each_shift s (λ m. u + lone_then s (start_of m) own + unmet_then s (start_of m) own ≤ count_of_links (applied s m)) id start few;
     asking = asks;
   }
 

@@ -38,6 +38,10 @@ pub mod Staying
 pub mod Knowing
 pub mod Parted
 pub mod Lasting
+pub mod Slots
+pub mod Indexed
+pub mod Misplaced
+pub mod Ordered
 pub mod Breaking
 pub mod Replacing
 pub mod Beside

@@ -97,84 +97,84 @@ leaf_by_length s whole id a here one =
 -- ---- one that does not stay
 
 module _ (s : PlanState) (whole : IsWhole s) (next : s.next_id ≤ 3999999000) (id to : ℕ) (top : Activity) (here : found s id ≡ Some top) (can : CanBeMade s (Shift id to)) (leaf : subtree_of id s.plan.activities ≡ id ∷ []) where
-  abbrev xs : List Activity
+  abbrev pub xs : List Activity
   xs = s.plan.activities
 
-  abbrev t : PlanState
+  abbrev pub t : PlanState
   t = with_plan (subtree_of id xs) (moved_with s to (found s id)) s
 
-  abbrev under : Activity → Bool
+  abbrev pub under : Activity → Bool
   under a = descends xs top.id a.id
 
-  abbrev one : Activity → Activity
+  abbrev pub one : Activity → Activity
   one a = cond (under a) (moved top.start to a) a
 
-  own_id : top.id ≡ id
+  pub own_id : top.id ≡ id
   own_id = is_id s whole next id to top here can
 
-  acts : t.plan.activities ≡ map one xs
+  pub acts : t.plan.activities ≡ map one xs
   acts = activities_then s whole next id to top here can
 
-  finds : (q : ℕ) → found t q ≡ option_map one (found s q)
+  pub finds : (q : ℕ) → found t q ≡ option_map one (found s q)
   finds q = found_then s whole next id to top here can q
 
   rows : (i : ℕ) → values_of s.model xs i ≡ values_of s.model t.plan.activities i
   rows i = rows_same s whole next id to top here can i
 
-  only_it : All (λ (y : Activity). under y ≡ true → y.id ≡ id) xs
+  pub only_it : All (λ (y : Activity). under y ≡ true → y.id ≡ id) xs
   unfolding subtree_of
   only_it =
       let it : All (λ (i : ℕ). i ≡ id) (subtree_of id xs) = subst (λ (l : List ℕ). All (λ (i : ℕ). i ≡ id) l) (sym leaf) (All-cons (λ (i : ℕ). i ≡ id) id [] refl (All-nil (λ (i : ℕ). i ≡ id))) in
       singles (descends xs top.id) id xs (subst (λ (n : ℕ). All (λ (i : ℕ). i ≡ id) (filter (descends xs n) (map id_of xs))) (sym own_id) it)
 
-  one_id : (y : Activity) → (one y).id ≡ y.id
+  pub one_id : (y : Activity) → (one y).id ≡ y.id
   one_id y = by (under y)
     where
       by : (b : Bool) → (cond b (moved top.start to y) y).id ≡ y.id
       by true = refl
       by false = refl
 
-  same_one : (y : Activity) → (under y ≡ true → y.id ≡ id) → (y.id ≡ id → ⊥) → one y ≡ y
+  pub same_one : (y : Activity) → (under y ≡ true → y.id ≡ id) → (y.id ≡ id → ⊥) → one y ≡ y
   same_one y only other = by (under y) refl
     where
       by : (b : Bool) → under y ≡ b → cond b (moved top.start to y) y ≡ y
       by true e = absurd (other (only e))
       by false e = refl
 
-  end_same : (y : Activity) → found s y.id ≡ Some y → one y ≡ y → end_at t y ≡ end_at s y
+  pub end_same : (y : Activity) → found s y.id ≡ Some y → one y ≡ y → end_at t y ≡ end_at s y
   unfolding end_of
   end_same y live same =
       ap (λ (o : Option Activity). end_in s.model o (values_of s.model t.plan.activities y.id)) (finds y.id ∙ (ap (option_map one) live ∙ ap (λ (z : Activity). Some z) same))
       ∙ (ap (λ (r : Row). end_in s.model (Some y) r) (sym (rows y.id)) ∙ ap (λ (o : Option Activity). end_in s.model o (values_of s.model xs y.id)) (sym live))
 
-  abbrev placed_with : Activity → Option ℕ → Placed
+  abbrev pub placed_with : Activity → Option ℕ → Placed
   placed_with y end = record { id = y.id; kind = y.kind; start = y.start; end = end; parent = y.parent; detail = y.detail }
 
-  placed_same : (y : Activity) → found s y.id ≡ Some y → one y ≡ y → placed_of t y ≡ placed_of s y
+  pub placed_same : (y : Activity) → found s y.id ≡ Some y → one y ≡ y → placed_of t y ≡ placed_of s y
   placed_same y live same = ap (placed_with y) (end_same y live same)
 
   -- ---- itself
 
-  abbrev own : Activity
+  abbrev pub own : Activity
   own = moved top.start to top
 
-  live_then : found t top.id ≡ Some own
+  pub live_then : found t top.id ≡ Some own
   live_then =
       let goes : under top ≡ true = descends_complete xs whole.fits.rooted top.id top.id itself in
       finds top.id ∙ (ap (option_map one) (ap (found s) own_id ∙ here) ∙ ap (λ (b : Bool). Some (cond b (moved top.start to top) top)) goes)
 
-  start_is : own.start ≡ to
+  pub start_is : own.start ≡ to
   start_is = omega arith
 
   -- moved to that start it is placed as after the shift
-  placed_own : placed_at to (placed_of s top) ≡ placed_of t own
+  pub placed_own : placed_at to (placed_of s top) ≡ placed_of t own
   placed_own =
       let none : top.measured ≡ None = (all_at (λ (y : Activity). under y ≡ true → y.measured ≡ None) xs id top (unmeasured_under s whole next id to top here can) here).0 (descends_complete xs whole.fits.rooted top.id top.id itself) in
       let firm : end_at t own ≡ option_map (moved_to top.start to) (end_at s top) = end_is top.start to s (subtree_of id xs) (moved_with s to (found s id)) top (ap (found s) own_id ∙ here) live_then (sym (rows top.id)) none (omega arith) in
       ap (λ (n : ℕ). record (placed_of s top) { start = n; end = option_map (moved_to top.start to) (end_at s top) }) (sym start_is)
       ∙ ap (λ (o : Option ℕ). record (placed_of s top) { start = own.start; end = o }) (sym firm)
 
-  ahead : is_ahead t own ≡ true
+  pub ahead : is_ahead t own ≡ true
   ahead =
       let keeps : MayBeMade s (Shift id to) = may s (Shift id to) can.allowed in
       let above : All (λ (b : Activity). floor_of s ≤ b.start) (map (moved top.start to) (filter under xs)) = rw here at keeps.above in

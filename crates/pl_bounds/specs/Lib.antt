@@ -32,4 +32,5 @@ pub mod Changed
 pub mod Tallies
 pub mod Looks
 pub mod Ties
+pub mod Orders
 pub mod Remaining

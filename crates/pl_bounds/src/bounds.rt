@@ -14,6 +14,7 @@ ghost use Rattle.pl_bounds.specs.Standing.{IsStandingOf};
 ghost use Rattle.pl_bounds.specs.Ties.{count_of_links};
 
 use crate::bounding::past_after;
+use crate::orders::unmet_then;
 use crate::outside::{Outside, outsides};
 use crate::runs::{Run, run_like, run_of};
 use crate::standing::{Standing, standing_of};
@@ -77,7 +78,12 @@ fn least_by(board: &Board, outsides: &[Outside], run: &Run, mv: &RepairMove) -> 
     let start = start_of(mv);
     let steady = run.known.steady_at(start);
     let lone = lone_then(board, run.known.alone, start);
-    let links = run.known.untouched.saturating_add(lone);
+    let unmet = unmet_then(board, run.known.alone, start);
+    let links = run
+        .known
+        .untouched
+        .saturating_add(lone)
+        .saturating_add(unmet);
     let least = steady.saturating_add(links).saturating_add(others);
     least.max(least_left(board.state(), mv))
 }

@@ -11,6 +11,7 @@ mod known;
 mod laws;
 mod link_conflicts;
 mod looking;
+mod orders;
 mod outside;
 mod parting;
 mod pulls;
