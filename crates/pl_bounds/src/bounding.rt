@@ -106,13 +106,7 @@ fn gone_on(walk: Walk, outside: &Outside, look: Look) -> Walk
 }
 
 // Goes on to a look at which it has to be worked out how much is added.
-fn gone_anew(
-    board: &Board,
-    walk: Walk,
-    outside: &Outside,
-    change: &Change<'_>,
-    look: Look,
-) -> Walk
+fn gone_anew(board: &Board, walk: Walk, outside: &Outside, change: &Change<'_>, look: Look) -> Walk
     requires unspoiled { board.now.spoiled ≡ false }
     requires of_plan { IsOutsideOf board.now.state outside.now }
     requires tally { IsTallyOf (is_past_with board.now.state outside.now change.now.going.now (moved_by change.now.way change.now.coming.now)) board.now.state.moment board.now.state.model.horizon walk.tally }

@@ -10,7 +10,7 @@ use pl_board::Board;
 // So far from 0 no level comes.
 const FAR: i64 = 1000000000000000;
 
-// A bar beyond which, and beyond the next number, a level may be asked for.
+// The bar, or the nearest one that may be asked for.
 fn within_reach(bar: i64) -> i64
     ensures small { IsSmall result }
     ensures less { IsSmall (result -ℤ pos 1) }
@@ -20,14 +20,7 @@ fn within_reach(bar: i64) -> i64
 }
 
 /// The first moment from one on and before an end at which a level is past a bar, or the end. Of a capacity none is told.
-pub(crate) fn first_past(
-    board: &Board,
-    side: Side,
-    line: u32,
-    bar: i64,
-    from: u32,
-    end: u32,
-) -> u32
+pub(crate) fn first_past(board: &Board, side: Side, line: u32, bar: i64, from: u32, end: u32) -> u32
     requires unspoiled { board.now.spoiled ≡ false }
     requires limited { IsLimited board.now.state side line }
     requires now { board.now.state.moment ≤ from }
@@ -45,14 +38,7 @@ pub(crate) fn first_past(
 }
 
 /// The first moment from one on and before an end at which a level is not past a bar, or the end. Of a capacity none is told.
-pub(crate) fn first_back(
-    board: &Board,
-    side: Side,
-    line: u32,
-    bar: i64,
-    from: u32,
-    end: u32,
-) -> u32
+pub(crate) fn first_back(board: &Board, side: Side, line: u32, bar: i64, from: u32, end: u32) -> u32
     requires unspoiled { board.now.spoiled ≡ false }
     requires limited { IsLimited board.now.state side line }
     requires now { board.now.state.moment ≤ from }

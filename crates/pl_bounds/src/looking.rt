@@ -48,7 +48,12 @@ impl Looking {
     }
 
     /// With a look of before, if it is behind those that are there.
-    pub(crate) fn keep(&mut self, board: &Board, outside: &Outside, look: Look) -> Result<(), AllocError>
+    pub(crate) fn keep(
+        &mut self,
+        board: &Board,
+        outside: &Outside,
+        look: Look,
+    ) -> Result<(), AllocError>
         requires right { look.value ≡ value_at board.now.state outside.now.side outside.now.line look.at }
         requires looks { AreLooksAt board.now.state outside.now.side outside.now.line self.old.next self.old.looks.items }
         ensures { OnOk result (AreLooksAt board.now.state outside.now.side outside.now.line self.new.next self.new.looks.items) }

@@ -17,7 +17,12 @@ fn worsens(side: Side, asked: &Asked) -> Option<u32> {
 }
 
 /// A moment from one on and before another at which what comes makes it worse, if there is one.
-pub(crate) fn worse_within(outside: &Outside, change: &Change<'_>, from: u32, to: u32) -> Option<u32>
+pub(crate) fn worse_within(
+    outside: &Outside,
+    change: &Change<'_>,
+    from: u32,
+    to: u32,
+) -> Option<u32>
     ensures { IfSome result (λ at. (from ≤ at) × (at < to)) }
 {
     for demand in change.coming {
