@@ -24,17 +24,18 @@ abbrev pub AsksIn : World → Type 0
 AsksIn w = (w.done ≡ false) × (is_repairing w ≡ true) × (plain_reason_of w ≡ None)
 
 -- fewer entries than the options allow
-abbrev pub HasRoom : List Noted → Type 0
-HasRoom items = InWorld items (λ w. length (entries_in items) < w.options.entries)
+abbrev pub HasRoomIn : List Noted → Type 0
+HasRoomIn items = InWorld items (λ w. length (entries_in items) < w.options.entries)
 
--- A planner looked at a front of this history, at least so long, and its chooser was to be asked there, since what it proposes could still be made.
+-- A planner looked at a front of this history that is at least so long. Repair went on there, and the log had room for what its
+-- chooser proposes.
 pub record HasLooked (low : ℕ) (items : List Noted) : Type 0 where
   pub front : List Noted
   pub on : IsPrefix front items
   pub late : low ≤ length front
   pub running : stop_in front ≡ false
   pub asks : InWorld front AsksIn
-  pub room : HasRoom front
+  pub room : HasRoomIn front
 
 -- The chooser was asked there, and proposed this.
 pub record IsSight (g : Lcg) (low : ℕ) (items : List Noted) (p : Option Proposal) : Type 0 where
@@ -67,7 +68,7 @@ IsPlanned g low before _ answer g2 = ⊥
 abbrev pub IsLate : List Noted → Type 0
 IsLate items = (stop_in items ≡ true) ⊎ InWorld items (λ w. (w.done ≡ true) ⊎ (is_repairing w ≡ false) ⊎ (w.options.entries ≤ length (entries_in items)))
 
--- A sight that came to nothing, since it was too late when the planner came to settle.
+-- A sight that came to nothing, since it was too late when the planner's second turn came.
 pub record IsLost (g : Lcg) (low : ℕ) (seen : List Noted) : Type 0 where
   pub proposal : Option Proposal
   pub behind : List Noted
@@ -106,7 +107,8 @@ IdlesBy r low seen (mid ∷ mids) r2 = IsKept r low seen mid × IdlesBy mid low 
 abbrev pub Idles : Role → ℕ → List Noted → Role → Type 0
 Idles r low seen r2 = (mids : List Role) × IdlesBy r low seen mids r2
 
--- A role that made nothing since memory was wanting: its chooser may have been asked once behind a look, and again where it proposed nothing.
+-- A role that made nothing because memory was wanting: its chooser may have been asked once after a look, and again if it proposed
+-- nothing.
 abbrev pub IsAskedAtMost : Role → ℕ → List Noted → Role → Type 0
 IsAskedAtMost (Planner g) low seen (Planner g2) =
     (g2 ≡ g) ⊎ (HasLooked low seen × (g2 ≡ seeded_after g))

@@ -57,7 +57,7 @@ impl Bells {
         }
     }
 
-    /// Rings for each who had nothing to do before a turn and has something to do behind it.
+    /// Rings for each who had nothing to do before a turn and has something to do after it.
     pub fn ring<R: Wait>(&self, rt: &R, before: Busy, behind: Busy) {
         let planner = !before.planner && behind.planner;
         let executive = !before.executive && behind.executive;

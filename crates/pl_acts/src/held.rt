@@ -13,7 +13,7 @@ pub struct Held {
 }
 
 impl Held {
-    /// A plan that was not stopped, of whose entries nobody made one.
+    /// A plan that was not stopped. None of its entries has an author: all were handed in.
     pub fn new(alloc: Global, machine: Machine) -> Held
         ensures { result ≡ record { plan = record { machine = machine; signs = record { opening = length machine.log; authors = [] } }; stopper = None } }
     {

@@ -8,6 +8,6 @@ pub enum Noted {
     Opened(Model, u32, Entry),
     /// A later entry, and who made it, if it was not handed in.
     Made(Option<Author>, Entry),
-    /// No event is made from here on, and who saw to that.
+    /// The plan was stopped, and who stopped it: no event is made from here on.
     Stopped(Author),
 }

@@ -5,7 +5,7 @@ use std::alloc::{AllocError, Global};
 /// Entries of a log.
 pub type Entries = Items<Entry>;
 
-/// A part of the log, and where the plan stood behind it.
+/// A part of the log, and where the plan stood after it.
 #[derive(Drop)]
 pub struct Part {
     pub entries: Entries,

@@ -2,7 +2,7 @@ use crate::role::Acted;
 use pl_cand::Proposal;
 use pl_machine::Machine;
 
-/// What a planner saw: how many entries, and what its chooser proposes behind them, if anything can be repaired there.
+/// What a planner saw: how many entries, and what its chooser proposes after them, if anything can be repaired there.
 #[derive(Drop)]
 pub struct Sight {
     pub seen: u32,

@@ -1,6 +1,8 @@
-ghost use Rattle.std.specs.Prelude.{◌≡◌, ◌≤◌, ◌<◌, false, slice_get};
+ghost use Rattle.std.specs.Prelude.{◌≡◌, ◌≤◌, ◌<◌, ℕ, true, false, slice_get};
 ghost use Rattle.std.specs.Option.{option_copied};
 ghost use Rattle.pl_model.specs.Checked.{IsCapacityLine, IsLevelLine};
+ghost use Rattle.pl_points.specs.Sums.{IsSmall};
+ghost use Rattle.pl_points.specs.Points.{is_out};
 ghost use Rattle.pl_semantics.specs.Demands.{use_at, level_at, state_at};
 ghost use Rattle.pl_detect.specs.Based.{IsStateLine};
 ghost use Rattle.pl_semantics.specs.PlanStates.{floor_of};
@@ -110,6 +112,28 @@ impl Board {
             return 0;
         }
         self.watched().lines.level_at(line, t)
+    }
+
+    /// The first moment from `from` on and before `to` at which the level is below `least` or above `most`, or else `to`,
+    /// under conditions like those of `level_at`.
+    pub fn level_until(&self, line: u32, from: u32, to: u32, least: i64, most: i64) -> u32
+        requires level { self.now.spoiled ≡ false → IsLevelLine (slice_get self.now.state.model.timelines line) }
+        requires now { self.now.spoiled ≡ false → self.now.state.moment ≤ from }
+        requires order { self.now.spoiled ≡ false → from ≤ to }
+        requires horizon { self.now.spoiled ≡ false → to ≤ self.now.state.model.horizon }
+        requires least { IsSmall least }
+        requires most { IsSmall most }
+        ensures low { from ≤ result }
+        ensures bound { from ≤ to → result ≤ to }
+        ensures within { self.now.spoiled ≡ false → (t : ℕ) → from ≤ t → t < result → is_out least most (level_at self.now.state line t) ≡ false }
+        ensures leaves { self.now.spoiled ≡ false → result < to → is_out least most (level_at self.now.state line result) ≡ true }
+    {
+        if self.spoiled() {
+            return from;
+        }
+        self.watched()
+            .lines
+            .level_until(line, from, to, least, most)
     }
 
     /// The number of the state at a moment, under the same conditions.

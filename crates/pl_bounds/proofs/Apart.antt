@@ -1,9 +1,9 @@
--- Sides of timelines that differ: the rest of a list, and one more behind it.
-use Rattle.std.proofs.Common.{◌≡◌, ℕ, ◌+◌, ◌<◌, ◌≤◌, Bool, true, false, List, [], ◌∷◌, ◌++◌, length, get_or, drop, refl, sym, ap, ◌∙◌, subst, add-one, arith, ltb}
+-- Sides of timelines that differ: the rest of a list, one more behind it, and one in the place of another of the same side.
+use Rattle.std.proofs.Common.{◌≡◌, ℕ, ◌+◌, ◌<◌, ◌≤◌, Bool, true, false, List, [], ◌∷◌, ◌++◌, length, get_or, set, drop, refl, sym, ap, ◌∙◌, subst, add-one, arith, ltb, eqb}
 use Rattle.std.specs.Prelude.{◌≢◌, ◌⊎◌, All, AllPairs}
 use Rattle.std.proofs.Math.Seq.{drop-cons, get_or-append_seam}
-use Rattle.std.proofs.lemmas.Bool.{ltb-true, ltb-false}
-use Rattle.std.proofs.lemmas.List.{get_or_append_left, length-append}
+use Rattle.std.proofs.lemmas.Bool.{ltb-true, ltb-false, eqb-true, eqb-false}
+use Rattle.std.proofs.lemmas.List.{get_or_append_left, length-append, get_or-set_same, get_or-set_other, length-set}
 use Rattle.std.proofs.lemmas.List.Elements.{All-cons, All-weaker}
 use Rattle.pl_bounds.specs.Looks.{IsElse}
 use Rattle.pl_bounds.specs.Sides.{code_of, IsOther, AreDifferent}
@@ -47,3 +47,36 @@ different_end os side line o at on different elsewhere = pairs_end IsOther os o 
         let P : ℕ → Type 0 = λ (n : ℕ). (y.line ≢ n) ⊎ (code_of y.side ≢ code_of side) in
         let Q : Side → Type 0 = λ (z : Side). (y.line ≢ o.line) ⊎ (code_of y.side ≢ code_of z) in
         subst Q (sym on) (subst P (sym at) is)
+
+-- ---- one in the place of another of the same side
+
+module _ (os : List Outside) (i : ℕ) (o : Outside) (lt : i < length os) (same : (d : Outside) → (o.line ≡ (get_or os i d).line) × (o.side ≡ (get_or os i d).side)) where
+  abbrev IsAsBefore : Outside → ℕ → Type 0
+  IsAsBefore d j = ((get_or (set os i o) j d).line ≡ (get_or os j d).line) × ((get_or (set os i o) j d).side ≡ (get_or os j d).side)
+
+  at_place : (d : Outside) (j : ℕ) → IsAsBefore d j
+  at_place d j = by (eqb j i) refl
+    where
+      by : (b : Bool) → eqb j i ≡ b → IsAsBefore d j
+      by true e =
+          let now : get_or (set os i o) i d ≡ o = get_or-set_same os i o d lt in
+          let line : (get_or (set os i o) i d).line ≡ (get_or os i d).line = ap (λ (x : Outside). x.line) now ∙ (same d).0 in
+          let side : (get_or (set os i o) i d).side ≡ (get_or os i d).side = ap (λ (x : Outside). x.side) now ∙ (same d).1 in
+          subst (IsAsBefore d) (sym (eqb-true j i e)) (line, side)
+      by false e =
+          let now : get_or (set os i o) j d ≡ get_or os j d = get_or-set_other os i j o d (eqb-false j i e) in
+          (ap (λ (x : Outside). x.line) now, ap (λ (x : Outside). x.side) now)
+
+  other_still : (x y x' y' : Outside) → (x'.line ≡ x.line) × (x'.side ≡ x.side) → (y'.line ≡ y.line) × (y'.side ≡ y.side) → IsOther x y → IsOther x' y'
+  other_still x y x' y' ex ey is =
+      let P : ℕ → Type 0 = λ (n : ℕ). (n ≢ y.line) ⊎ (code_of x.side ≢ code_of y.side) in
+      let Q : ℕ → Type 0 = λ (n : ℕ). (x'.line ≢ n) ⊎ (code_of x.side ≢ code_of y.side) in
+      let R : Side → Type 0 = λ (z : Side). (x'.line ≢ y'.line) ⊎ (code_of z ≢ code_of y.side) in
+      let S : Side → Type 0 = λ (z : Side). (x'.line ≢ y'.line) ⊎ (code_of x'.side ≢ code_of z) in
+      subst S (sym ey.1) (subst R (sym ex.1) (subst Q (sym ey.0) (subst P (sym ex.0) is)))
+
+  pub different_set : AreDifferent os → AreDifferent (set os i o)
+  different_set pairs a b d less high =
+      let long : length (set os i o) ≡ length os = length-set os i o in
+      let within : b < length os = omega (arith, high, long) in
+      other_still (get_or os a d) (get_or os b d) (get_or (set os i o) a d) (get_or (set os i o) b d) (at_place d a) (at_place d b) (pairs a b d less within)

@@ -1,5 +1,5 @@
 -- What is known of a move, and of each that places the same at another start.
-use Rattle.std.proofs.Common.{◌≡◌, ◌≤◌, ◌+◌, ℕ, ℤ, [], Option, Some, None, sym, subst, arith}
+use Rattle.std.proofs.Common.{◌≡◌, ◌≤◌, ◌+◌, ℕ, ℤ, [], ◌∷◌, Option, Some, None, sym, subst, arith}
 use Rattle.std.specs.Prelude.{IfSome}
 use Rattle.pl_links.specs.declared.placed.Placed.{Placed}
 use Rattle.pl_moves.specs.Runs.{CanBeMade, start_of}
@@ -12,9 +12,11 @@ use Rattle.pl_semantics.specs.Whole.{IsWhole}
 use Rattle.pl_bounds.specs.Asked.{IsAlike}
 use Rattle.pl_bounds.specs.Askings.{IsAskingOf, root_alone}
 use Rattle.pl_bounds.specs.Known.{IsKnownOf, only_steady}
+use Rattle.pl_bounds.specs.Orders.{unmet_then}
 use Rattle.pl_bounds.specs.Plain.{count_of_plain}
 use Rattle.pl_bounds.specs.Standing.{IsLeftByNew, IsStandingOf}
 use Rattle.pl_bounds.specs.Windows.{IsLeftByShift, IsWindowOf, or_one_more}
+use Rattle.pl_bounds.specs.Remaining.{count_of_untouched}
 use Rattle.pl_bounds.specs.Ties.{count_of_lone, count_of_links, lone_then, root_in}
 use Rattle.pl_bounds.specs.declared.asking.Asking.{Asking}
 use Rattle.pl_bounds.specs.declared.window.Window.{Window}
@@ -22,38 +24,40 @@ use Rattle.pl_bounds.specs.declared.standing.Standing.{Standing}
 use Rattle.pl_bounds.proofs.Adding.{addition_asks}
 use Rattle.pl_bounds.proofs.Alike.{each_new, each_shift, each_deletion, each_assignment}
 use Rattle.pl_bounds.proofs.Assigned.{assign_left}
-use Rattle.pl_bounds.proofs.Placing.{few_new}
+use Rattle.pl_bounds.proofs.Placing.{new_lone}
+use Rattle.pl_bounds.proofs.Together.{few_with_new}
 
 module _ (s : PlanState) where
-  pub known_new : IsWhole s → s.next_id ≤ 3999999000 → (kind start : ℕ) (goal : Option ℕ) → CanBeMade s (Add kind start goal) → (n : ℕ) → IsLeftByNew s kind goal n
+  pub known_new : IsWhole s → s.next_id ≤ 3999999000 → (kind start : ℕ) (goal : Option ℕ) → CanBeMade s (Add kind start goal) → (n : ℕ) → IsLeftByNew s kind goal n → (u : ℕ) → u ≤ count_of_untouched s [] (kind ∷ []) None
       → (own : Placed) → own ≡ root_in (root_alone s kind start goal) s.next_id kind start
       → (a : Asking) → a.going.items ≡ [] → a.coming.items ≡ demands_of (root_alone s kind start goal) → a.start ≡ start
-      → IsKnownOf s (record { first = Add kind start goal; steady = n; window = None; alone = Some own; asking = Some a })
-  known_new whole next kind start goal can n left own is a going coming from = record {
+      → IsKnownOf s (record { first = Add kind start goal; steady = n; window = None; untouched = u; alone = Some own; asking = Some a })
+  known_new whole next kind start goal can n left u few own is a going coming from = record {
     steady = each_new s (λ m. n + 0 ≤ count_of_plain (applied s m)) kind start goal (λ to there. let most = left to there in omega (arith, most));
-    alone = each_new s (λ m. lone_then s (start_of m) (Some own) ≤ count_of_links (applied s m)) kind start goal
-        (λ to there. subst (λ (p : Placed). count_of_lone s to p ≤ count_of_links (applied s (Add kind to goal))) (sym is) (few_new s whole next kind to goal there start can));
+    links = each_new s (λ m. u + lone_then s (start_of m) (Some own) + unmet_then s (start_of m) (Some own) ≤ count_of_links (applied s m)) kind start goal
+        (λ to there. subst (λ (p : Placed). u + count_of_lone s to p + unmet_then s to (Some p) ≤ count_of_links (applied s (Add kind to goal))) (sym is)
+        (let all = few_with_new s whole next kind to goal there _ _ (new_lone s whole next kind to goal there start can) u few in omega (arith, all)));
     asking = addition_asks s whole next kind start goal can a going coming from;
   }
 
-  pub known_deletion : (id n : ℕ) → n ≤ count_of_plain (applied s (Delete id)) → (o : Option Asking) → IfSome o (λ a. IsAskingOf s (Delete id) a) → IsKnownOf s (record { first = Delete id; steady = n; window = None; alone = None; asking = o })
-  known_deletion id n left o asks = record {
+  pub known_deletion : (id n : ℕ) → n ≤ count_of_plain (applied s (Delete id)) → (u : ℕ) → u ≤ count_of_links (applied s (Delete id)) → (o : Option Asking) → IfSome o (λ a. IsAskingOf s (Delete id) a) → IsKnownOf s (record { first = Delete id; steady = n; window = None; untouched = u; alone = None; asking = o })
+  known_deletion id n left u few o asks = record {
     steady = each_deletion s (λ m. n + 0 ≤ count_of_plain (applied s m)) id (omega (arith, left));
-    alone = λ m can alike. omega arith;
+    links = each_deletion s (λ m. u + 0 + 0 ≤ count_of_links (applied s m)) id (omega (arith, few));
     asking = asks;
   }
 
-  pub known_shift : (id start n : ℕ) → IsLeftByShift s id n → (w : Option Window) → IfSome w (λ x. IsWindowOf s id x) → (own : Option Placed) → ((to : ℕ) → CanBeMade s (Shift id to) → lone_then s to own ≤ count_of_links (applied s (Shift id to)))
-      → (o : Option Asking) → IfSome o (λ a. IsAskingOf s (Shift id start) a) → IsKnownOf s (record { first = Shift id start; steady = n; window = w; alone = own; asking = o })
-  known_shift id start n left w window own few o asks = record {
+  pub known_shift : (id start n : ℕ) → IsLeftByShift s id n → (w : Option Window) → IfSome w (λ x. IsWindowOf s id x) → (u : ℕ) (own : Option Placed) → ((to : ℕ) → CanBeMade s (Shift id to) → u + lone_then s to own + unmet_then s to own ≤ count_of_links (applied s (Shift id to)))
+      → (o : Option Asking) → IfSome o (λ a. IsAskingOf s (Shift id start) a) → IsKnownOf s (record { first = Shift id start; steady = n; window = w; untouched = u; alone = own; asking = o })
+  known_shift id start n left w window u own few o asks = record {
     steady = each_shift s (λ m. or_one_more w (start_of m) n ≤ count_of_plain (applied s m)) id start (left w window);
-    alone = each_shift s (λ m. lone_then s (start_of m) own ≤ count_of_links (applied s m)) id start few;
+    links = each_shift s (λ m. u + lone_then s (start_of m) own + unmet_then s (start_of m) own ≤ count_of_links (applied s m)) id start few;
     asking = asks;
   }
 
   -- where nothing is known but a number
   pub known_other : (first : RepairMove) (n : ℕ) → ((m : RepairMove) → CanBeMade s m → IsAlike first m → n ≤ count_of_plain (applied s m)) → IsKnownOf s (only_steady first n)
-  known_other first n left = record { steady = λ m can alike. let most = left m can alike in omega (arith, most); alone = λ m can alike. omega arith; asking = tt }
+  known_other first n left = record { steady = λ m can alike. let most = left m can alike in omega (arith, most); links = λ m can alike. omega arith; asking = tt }
 
   -- an assignment leaves as many open goals, and as many activities that lack an alternative
   pub valueless_left : IsWhole s → s.next_id ≤ 3999999000 → (o : Standing) → IsStandingOf s o → (id param : ℕ) (value : ℤ) (m : RepairMove) → CanBeMade s m → IsAlike (Assign id param value) m → o.valueless ≤ count_of_plain (applied s m)

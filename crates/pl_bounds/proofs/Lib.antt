@@ -38,3 +38,14 @@ pub mod Staying
 pub mod Knowing
 pub mod Parted
 pub mod Lasting
+pub mod Slots
+pub mod Indexed
+pub mod Misplaced
+pub mod Ordered
+pub mod Breaking
+pub mod Replacing
+pub mod Beside
+pub mod Gathered
+pub mod Remaining
+pub mod Together
+pub mod Listed

@@ -42,7 +42,7 @@ use Rattle.pl_bounds.proofs.Unmoved.{steady}
 
 -- ---- numbers among others
 
-flipped : (n : ℕ) (ids : List ℕ) → list_any (eqb n) ids ≡ among n ids
+pub flipped : (n : ℕ) (ids : List ℕ) → list_any (eqb n) ids ≡ among n ids
 flipped n ids = any_agree (eqb n) (λ i. eqb i n) (λ i. nat_eq_equiv.symm n i) ids
 
 first_among : (i : ℕ) (ids : List ℕ) → among i (i ∷ ids) ≡ true
@@ -67,7 +67,7 @@ module _ (s : PlanState) (whole : IsWhole s) (top : ℕ) where
   sub = subtree_of top s.plan.activities
 
   -- what descends is held
-  held : (n : ℕ) → IsLive n xs → Descends xs top n → among n sub ≡ true
+  pub held : (n : ℕ) → IsLive n xs → Descends xs top n → among n sub ≡ true
   held n live under = sym (flipped n sub) ∙ list_any-from_Contains {eq = eqb} nat_eq_equiv n sub ((subtree_members xs whole.fits.rooted top n).1 (live, under))
 
   pub top_held : IsLive top xs → among top sub ≡ true

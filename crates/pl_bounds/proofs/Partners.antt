@@ -1,15 +1,12 @@
 -- A shift of an activity from which no other descends: no other one changes, and its links that find no partner are conflicts then.
-use Rattle.std.proofs.Common.{◌≡◌, ℕ, ◌+◌, ◌≤◌, Bool, true, false, cond, eqb, List, [], ◌∷◌, map, filter, length, Option, Some, None, refl, sym, ap, ◌∙◌, subst, arith, leb}
-use Rattle.std.specs.Prelude.{◌&&◌, ◌||◌, not, All, is_some, slice_get}
+use Rattle.std.proofs.Common.{◌≡◌, ℕ, ◌≤◌, Bool, true, false, cond, eqb, List, [], ◌∷◌, map, filter, length, Option, Some, None, refl, sym, ap, ◌∙◌, subst, arith, leb}
+use Rattle.std.specs.Prelude.{◌&&◌, ◌||◌, not, All, is_some}
 use Rattle.std.specs.List.{list_any}
 use Rattle.std.specs.Option.{option_map}
 use Rattle.std.proofs.lemmas.Bool.{eq-eqb, eqb-true, eqb-false, leb-true}
-use Rattle.std.proofs.lemmas.Option.{slice_get_within}
 use Rattle.std.proofs.lemmas.List.Elements.{All-nil, All-cons, All-head, All-tail}
-use Rattle.std.proofs.lemmas.List.Kept.{IsStrictlySortedBy-filter}
 use Rattle.std.proofs.Math.Bool.{or-true}
 use Rattle.pl_conflict.specs.declared.conflict.Conflict.{Conflict}
-use Rattle.pl_conflict.specs.Order.{conflict_cmp, has}
 use Rattle.pl_model.specs.declared.links.Link.{Link}
 use Rattle.pl_links.specs.declared.placed.Placed.{Placed}
 use Rattle.pl_links.specs.Broken.{moment_of, are_apart, is_partner, lacks_partner, links_of}
@@ -24,27 +21,20 @@ use Rattle.pl_plan.proofs.Climbs.{all_at}
 use Rattle.pl_plan.proofs.Kept.{each_found}
 use Rattle.pl_plan.proofs.TreeLaws.{descends_complete}
 use Rattle.pl_semantics.specs.declared.plan_state.PlanState.{PlanState}
-use Rattle.pl_semantics.specs.Conflicts.{conflicts_of}
-use Rattle.pl_semantics.specs.Goals.{goal_conflicts}
-use Rattle.pl_semantics.specs.Activities.{activity_conflicts}
 use Rattle.pl_semantics.specs.Legal.{MayBeMade}
-use Rattle.pl_semantics.specs.Links.{placed_of, placed_in, lone, link_conflicts}
+use Rattle.pl_semantics.specs.Links.{placed_of, placed_in}
 use Rattle.pl_semantics.specs.Moves.{applied, moved, moved_with}
-use Rattle.pl_semantics.specs.Parts.{Part}
 use Rattle.pl_semantics.specs.PlanStates.{found, end_at, is_ahead, is_committed, floor_of}
-use Rattle.pl_semantics.specs.Timelines.{timeline_conflicts}
 use Rattle.pl_semantics.specs.Whole.{IsWhole}
 use Rattle.pl_semantics.proofs.Refusing.{may}
-use Rattle.pl_semantics.proofs.Standing.{ordered, members, of_links_alone}
 use Rattle.pl_update.specs.Changes.Replaced.{with_plan}
 use Rattle.pl_update.proofs.AboutChanges.Keeping.{whole_replaced}
 use Rattle.pl_moves.specs.Runs.{CanBeMade}
 use Rattle.pl_bounds.specs.Moved.{moved_to}
-use Rattle.pl_bounds.specs.Ties.{placed_at, count_of_lone, lone_then, is_link, is_link_part, count_of_links}
-use Rattle.pl_bounds.proofs.Counted.{held_are_few}
-use Rattle.pl_bounds.proofs.Lonely.{lone_stands, lones_from, as_many, each_from, lones_differ}
+use Rattle.pl_bounds.specs.Ties.{placed_at, count_of_lone, lone_then}
+use Rattle.pl_bounds.proofs.Gathered.{AreLone, gathered, none_lone}
+use Rattle.pl_bounds.proofs.Lonely.{lones_from}
 use Rattle.pl_bounds.proofs.Moving.{end_is}
-use Rattle.pl_bounds.proofs.Parts.{has_kept}
 use Rattle.pl_bounds.proofs.Shifting.{activities_then, found_then, rows_same, is_id, may_replace, by_replacing, unmeasured_under}
 
 -- ---- lists
@@ -107,84 +97,84 @@ leaf_by_length s whole id a here one =
 -- ---- one that does not stay
 
 module _ (s : PlanState) (whole : IsWhole s) (next : s.next_id ≤ 3999999000) (id to : ℕ) (top : Activity) (here : found s id ≡ Some top) (can : CanBeMade s (Shift id to)) (leaf : subtree_of id s.plan.activities ≡ id ∷ []) where
-  abbrev xs : List Activity
+  abbrev pub xs : List Activity
   xs = s.plan.activities
 
-  abbrev t : PlanState
+  abbrev pub t : PlanState
   t = with_plan (subtree_of id xs) (moved_with s to (found s id)) s
 
-  abbrev under : Activity → Bool
+  abbrev pub under : Activity → Bool
   under a = descends xs top.id a.id
 
-  abbrev one : Activity → Activity
+  abbrev pub one : Activity → Activity
   one a = cond (under a) (moved top.start to a) a
 
-  own_id : top.id ≡ id
+  pub own_id : top.id ≡ id
   own_id = is_id s whole next id to top here can
 
-  acts : t.plan.activities ≡ map one xs
+  pub acts : t.plan.activities ≡ map one xs
   acts = activities_then s whole next id to top here can
 
-  finds : (q : ℕ) → found t q ≡ option_map one (found s q)
+  pub finds : (q : ℕ) → found t q ≡ option_map one (found s q)
   finds q = found_then s whole next id to top here can q
 
   rows : (i : ℕ) → values_of s.model xs i ≡ values_of s.model t.plan.activities i
   rows i = rows_same s whole next id to top here can i
 
-  only_it : All (λ (y : Activity). under y ≡ true → y.id ≡ id) xs
+  pub only_it : All (λ (y : Activity). under y ≡ true → y.id ≡ id) xs
   unfolding subtree_of
   only_it =
       let it : All (λ (i : ℕ). i ≡ id) (subtree_of id xs) = subst (λ (l : List ℕ). All (λ (i : ℕ). i ≡ id) l) (sym leaf) (All-cons (λ (i : ℕ). i ≡ id) id [] refl (All-nil (λ (i : ℕ). i ≡ id))) in
       singles (descends xs top.id) id xs (subst (λ (n : ℕ). All (λ (i : ℕ). i ≡ id) (filter (descends xs n) (map id_of xs))) (sym own_id) it)
 
-  one_id : (y : Activity) → (one y).id ≡ y.id
+  pub one_id : (y : Activity) → (one y).id ≡ y.id
   one_id y = by (under y)
     where
       by : (b : Bool) → (cond b (moved top.start to y) y).id ≡ y.id
       by true = refl
       by false = refl
 
-  same_one : (y : Activity) → (under y ≡ true → y.id ≡ id) → (y.id ≡ id → ⊥) → one y ≡ y
+  pub same_one : (y : Activity) → (under y ≡ true → y.id ≡ id) → (y.id ≡ id → ⊥) → one y ≡ y
   same_one y only other = by (under y) refl
     where
       by : (b : Bool) → under y ≡ b → cond b (moved top.start to y) y ≡ y
       by true e = absurd (other (only e))
       by false e = refl
 
-  end_same : (y : Activity) → found s y.id ≡ Some y → one y ≡ y → end_at t y ≡ end_at s y
+  pub end_same : (y : Activity) → found s y.id ≡ Some y → one y ≡ y → end_at t y ≡ end_at s y
   unfolding end_of
   end_same y live same =
       ap (λ (o : Option Activity). end_in s.model o (values_of s.model t.plan.activities y.id)) (finds y.id ∙ (ap (option_map one) live ∙ ap (λ (z : Activity). Some z) same))
       ∙ (ap (λ (r : Row). end_in s.model (Some y) r) (sym (rows y.id)) ∙ ap (λ (o : Option Activity). end_in s.model o (values_of s.model xs y.id)) (sym live))
 
-  abbrev placed_with : Activity → Option ℕ → Placed
+  abbrev pub placed_with : Activity → Option ℕ → Placed
   placed_with y end = record { id = y.id; kind = y.kind; start = y.start; end = end; parent = y.parent; detail = y.detail }
 
-  placed_same : (y : Activity) → found s y.id ≡ Some y → one y ≡ y → placed_of t y ≡ placed_of s y
+  pub placed_same : (y : Activity) → found s y.id ≡ Some y → one y ≡ y → placed_of t y ≡ placed_of s y
   placed_same y live same = ap (placed_with y) (end_same y live same)
 
   -- ---- itself
 
-  abbrev own : Activity
+  abbrev pub own : Activity
   own = moved top.start to top
 
-  live_then : found t top.id ≡ Some own
+  pub live_then : found t top.id ≡ Some own
   live_then =
       let goes : under top ≡ true = descends_complete xs whole.fits.rooted top.id top.id itself in
       finds top.id ∙ (ap (option_map one) (ap (found s) own_id ∙ here) ∙ ap (λ (b : Bool). Some (cond b (moved top.start to top) top)) goes)
 
-  start_is : own.start ≡ to
+  pub start_is : own.start ≡ to
   start_is = omega arith
 
   -- moved to that start it is placed as after the shift
-  placed_own : placed_at to (placed_of s top) ≡ placed_of t own
+  pub placed_own : placed_at to (placed_of s top) ≡ placed_of t own
   placed_own =
       let none : top.measured ≡ None = (all_at (λ (y : Activity). under y ≡ true → y.measured ≡ None) xs id top (unmeasured_under s whole next id to top here can) here).0 (descends_complete xs whole.fits.rooted top.id top.id itself) in
       let firm : end_at t own ≡ option_map (moved_to top.start to) (end_at s top) = end_is top.start to s (subtree_of id xs) (moved_with s to (found s id)) top (ap (found s) own_id ∙ here) live_then (sym (rows top.id)) none (omega arith) in
       ap (λ (n : ℕ). record (placed_of s top) { start = n; end = option_map (moved_to top.start to) (end_at s top) }) (sym start_is)
       ∙ ap (λ (o : Option ℕ). record (placed_of s top) { start = own.start; end = o }) (sym firm)
 
-  ahead : is_ahead t own ≡ true
+  pub ahead : is_ahead t own ≡ true
   ahead =
       let keeps : MayBeMade s (Shift id to) = may s (Shift id to) can.allowed in
       let above : All (λ (b : Activity). floor_of s ≤ b.start) (map (moved top.start to) (filter under xs)) = rw here at keeps.above in
@@ -238,41 +228,26 @@ module _ (s : PlanState) (whole : IsWhole s) (next : s.next_id ≤ 3999999000) (
   whole_then : IsWhole t
   whole_then = whole_replaced s (subtree_of id xs) (moved_with s to (found s id)) whole (may_replace s whole next id to top here can)
 
-  among_links : (q : Conflict) → has q (link_conflicts t) ≡ true → has q (filter is_link (conflicts_of t)) ≡ true
-  among_links q e =
-      let stands : has q (conflicts_of t) ≡ true =
-      members t q ∙ ap (λ (b : Bool). has q (goal_conflicts t) || (has q (activity_conflicts t) || (b || has q (timeline_conflicts t)))) e
-      ∙ rw (or-true (has q (activity_conflicts t)), or-true (has q (goal_conflicts t))) refl in
-      has_kept is_link (conflicts_of t) q (ap (λ (p : Part). is_link_part p) (of_links_alone t q e)) stands
-
   abbrev is_lone : Link → Bool
   is_lone l = lacks_partner (placed_in s) (placed_at to (placed_of s top)) l
 
-  abbrev links : List Link
-  links = links_of s.model (placed_of s top)
+  lone_ones : AreLone (applied s (Shift id to)) id (count_of_lone s to (placed_of s top)) (lones_from own is_lone 0 (links_of s.model (placed_of s top)))
+  lone_ones =
+      let then_ : AreLone t top.id (count_of_lone s to (placed_of s top)) (lones_from own is_lone 0 (links_of s.model (placed_of s top))) = gathered t whole_then.rising own ahead live_then is_lone lacks in
+      subst (λ (n : ℕ). AreLone (applied s (Shift id to)) n (count_of_lone s to (placed_of s top)) (lones_from own is_lone 0 (links_of s.model (placed_of s top)))) own_id
+      (subst (λ (w : PlanState). AreLone w top.id (count_of_lone s to (placed_of s top)) (lones_from own is_lone 0 (links_of s.model (placed_of s top)))) (by_replacing s whole next id to top here can).is then_)
 
-  lone_few : count_of_lone s to (placed_of s top) ≤ count_of_links t
-  lone_few =
-      let few : length (lones_from own is_lone 0 links) ≤ length (filter is_link (conflicts_of t)) =
-      held_are_few (lones_from own is_lone 0 links) (filter is_link (conflicts_of t)) (lones_differ own is_lone 0 links) (IsStrictlySortedBy-filter conflict_cmp is_link (conflicts_of t) (ordered t)) (each_from own is_lone (λ (q : Conflict). has q (filter is_link (conflicts_of t)) ≡ true) 0 links each) in
-      subst (λ (n : ℕ). n ≤ count_of_links t) (as_many own is_lone 0 links) few
-    where
-      each : (j : ℕ) (l : Link) → slice_get links j ≡ Some l → is_lone l ≡ true → has (lone own (0 + j)) (filter is_link (conflicts_of t)) ≡ true
-      each j l is lonely =
-          let zero : 0 + j ≡ j = omega arith in
-          subst (λ (n : ℕ). has (lone own n) (filter is_link (conflicts_of t)) ≡ true) (sym zero)
-          (among_links (lone own j) (lone_stands t own ahead whole_then.rising live_then j l (slice_get_within links j l is) is (lacks l lonely)))
+  lone_some : (alone : Option Placed) → alone ≡ Some (placed_of s top) → (ks : List Conflict) × AreLone (applied s (Shift id to)) id (lone_then s to alone) ks
+  lone_some alone is = (
+    lones_from own is_lone 0 (links_of s.model (placed_of s top)),
+    subst (λ (o : Option Placed). AreLone (applied s (Shift id to)) id (lone_then s to o) (lones_from own is_lone 0 (links_of s.model (placed_of s top)))) (sym is) lone_ones,
+  )
 
-  pub few_lone : (alone : Option Placed) → alone ≡ option_map (placed_of s) (found s id) → lone_then s to alone ≤ count_of_links (applied s (Shift id to))
-  few_lone alone is =
-      let own_is : alone ≡ Some (placed_of s top) = is ∙ ap (option_map (placed_of s)) here in
-      let few : lone_then s to alone ≤ count_of_links t = subst (λ (o : Option Placed). lone_then s to o ≤ count_of_links t) (sym own_is) lone_few in
-      subst (λ (w : PlanState). lone_then s to alone ≤ count_of_links w) (by_replacing s whole next id to top here can).is few
-
-pub few_alone : (s : PlanState) → IsWhole s → s.next_id ≤ 3999999000 → (id to : ℕ) → CanBeMade s (Shift id to) → length (subtree_of id s.plan.activities) ≡ 1 → (alone : Option Placed) → alone ≡ option_map (placed_of s) (found s id)
-    → lone_then s to alone ≤ count_of_links (applied s (Shift id to))
-few_alone s whole next id to can one alone is = by (found s id) refl
+pub lone_left : (s : PlanState) → IsWhole s → s.next_id ≤ 3999999000 → (id to : ℕ) → CanBeMade s (Shift id to) → length (subtree_of id s.plan.activities) ≡ 1 → (alone : Option Placed) → alone ≡ option_map (placed_of s) (found s id)
+    → (ks : List Conflict) × AreLone (applied s (Shift id to)) id (lone_then s to alone) ks
+lone_left s whole next id to can one alone is = by (found s id) refl
   where
-    by : (o : Option Activity) → found s id ≡ o → lone_then s to alone ≤ count_of_links (applied s (Shift id to))
-    by None none = let nothing : alone ≡ None = is ∙ ap (option_map (placed_of s)) none in let zero : lone_then s to alone ≡ 0 = ap (lone_then s to) nothing in omega (arith, zero)
-    by (Some top) here = few_lone s whole next id to top here can (leaf_by_length s whole id top here one) alone is
+    by : (o : Option Activity) → found s id ≡ o → (ks : List Conflict) × AreLone (applied s (Shift id to)) id (lone_then s to alone) ks
+    by None none = let nothing : alone ≡ None = is ∙ ap (option_map (placed_of s)) none in ([], none_lone (applied s (Shift id to)) id (lone_then s to alone) (ap (lone_then s to) nothing))
+    by (Some top) here =
+        lone_some s whole next id to top here can (leaf_by_length s whole id top here one) alone (is ∙ ap (option_map (placed_of s)) here)

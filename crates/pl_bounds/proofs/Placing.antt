@@ -1,17 +1,12 @@
 -- A new root: no other activity changes, and its links that find no partner are conflicts then.
-use Rattle.std.proofs.Common.{◌≡◌, ℕ, ◌+◌, ◌-◌, ◌<◌, ◌≤◌, Bool, true, false, cond, eqb, leb, List, [], ◌∷◌, ◌++◌, map, filter, length, Option, Some, None, refl, sym, ap, ◌∙◌, subst, arith}
-use Rattle.std.specs.Prelude.{◌&&◌, ◌||◌, not, All, is_some, option_and_then, slice_get}
+use Rattle.std.proofs.Common.{◌≡◌, ℕ, ◌+◌, ◌-◌, ◌<◌, ◌≤◌, Bool, true, false, cond, eqb, leb, List, [], ◌∷◌, ◌++◌, map, Option, Some, None, refl, sym, ap, ◌∙◌, subst, arith}
+use Rattle.std.specs.Prelude.{◌&&◌, ◌||◌, not, All, is_some, option_and_then}
 use Rattle.std.specs.List.{list_any}
 use Rattle.std.specs.Option.{option_map}
 use Rattle.std.proofs.lemmas.Bool.{eq-eqb, leb-true, ne_eqb}
-use Rattle.std.proofs.lemmas.Option.{slice_get_within}
 use Rattle.std.proofs.lemmas.List.Elements.{All-head, All-tail}
-use Rattle.std.proofs.lemmas.List.Kept.{IsStrictlySortedBy-filter}
-use Rattle.std.proofs.Math.Bool.{or-true}
 use Rattle.pl_update.specs.Changes.Replaced.{touched, with_plan}
 use Rattle.pl_update.proofs.AboutChanges.Keeping.{whole_replaced}
-use Rattle.pl_conflict.specs.declared.conflict.Conflict.{Conflict}
-use Rattle.pl_conflict.specs.Order.{conflict_cmp, has}
 use Rattle.pl_links.specs.declared.placed.Placed.{Placed}
 use Rattle.pl_links.specs.Broken.{is_partner, lacks_partner, links_of}
 use Rattle.pl_model.specs.declared.kinds.Kind.{Kind}
@@ -25,26 +20,19 @@ use Rattle.pl_plan.specs.Fitting.{kind_of}
 use Rattle.pl_plan.specs.Values.{Row, values_of}
 use Rattle.pl_plan.proofs.Kept.{each_found}
 use Rattle.pl_semantics.specs.declared.plan_state.PlanState.{PlanState}
-use Rattle.pl_semantics.specs.Activities.{activity_conflicts}
-use Rattle.pl_semantics.specs.Conflicts.{conflicts_of}
-use Rattle.pl_semantics.specs.Goals.{goal_conflicts}
 use Rattle.pl_semantics.specs.Legal.{MayBeMade}
-use Rattle.pl_semantics.specs.Links.{placed_of, placed_in, lone, link_conflicts}
+use Rattle.pl_semantics.specs.Links.{placed_of, placed_in}
 use Rattle.pl_semantics.specs.Moves.{applied, root_for}
-use Rattle.pl_semantics.specs.Parts.{Part}
 use Rattle.pl_semantics.specs.PlanStates.{among, end_at, found, floor_of, is_ahead, is_committed, row_of}
-use Rattle.pl_semantics.specs.Timelines.{timeline_conflicts}
 use Rattle.pl_semantics.specs.Whole.{IsIdBelow, IsWhole}
 use Rattle.pl_semantics.proofs.Refusing.{may}
-use Rattle.pl_semantics.proofs.Standing.{ordered, members, of_links_alone}
 use Rattle.pl_bounds.specs.Askings.{only, without_goal}
 use Rattle.pl_bounds.specs.Moved.{moved_to}
-use Rattle.pl_bounds.specs.Ties.{placed_at, count_of_lone, is_link, is_link_part, count_of_links}
+use Rattle.pl_bounds.specs.Ties.{placed_at, count_of_lone}
 use Rattle.pl_bounds.proofs.Adding.{activities_then, by_replacing, found_then, itself, may_replace, row, row_alone, row_then}
-use Rattle.pl_bounds.proofs.Counted.{held_are_few}
-use Rattle.pl_bounds.proofs.Lonely.{lone_stands, lones_from, as_many, each_from, lones_differ}
+use Rattle.pl_bounds.proofs.Gathered.{AreLone, gathered}
+use Rattle.pl_bounds.proofs.Lonely.{lones_from}
 use Rattle.pl_bounds.proofs.Moving.{end_moved}
-use Rattle.pl_bounds.proofs.Parts.{has_kept}
 
 found_before : (q : ℕ) (y : Activity) (xs ys : List Activity) → activity_of q xs ≡ Some y → activity_of q (xs ++ ys) ≡ Some y
 found_before q y [] ys here = absurd (cc)
@@ -117,13 +105,6 @@ module _ (s : PlanState) (whole : IsWhole s) (next : s.next_id ≤ 3999999000) (
   whole_then : IsWhole t
   whole_then = whole_replaced s [] (own ∷ []) whole (may_replace s whole next kind to goal can)
 
-  among_links : (q : Conflict) → has q (link_conflicts t) ≡ true → has q (filter is_link (conflicts_of t)) ≡ true
-  among_links q e =
-      let stands : has q (conflicts_of t) ≡ true =
-      members t q ∙ ap (λ (b : Bool). has q (goal_conflicts t) || (has q (activity_conflicts t) || (b || has q (timeline_conflicts t)))) e
-      ∙ rw (or-true (has q (activity_conflicts t)), or-true (has q (goal_conflicts t))) refl in
-      has_kept is_link (conflicts_of t) q (ap (λ (p : Part). is_link_part p) (of_links_alone t q e)) stands
-
   -- ---- as it is placed in a plan of its own, at another start
 
   module _ (start : ℕ) (can_first : CanBeMade s (Add kind start goal)) where
@@ -163,20 +144,7 @@ module _ (s : PlanState) (whole : IsWhole s) (next : s.next_id ≤ 3999999000) (
     abbrev is_lone : Link → Bool
     is_lone l = lacks_partner (placed_in s) (placed_at to first) l
 
-    abbrev links : List Link
-    links = links_of s.model first
-
-    lone_few : count_of_lone s to first ≤ count_of_links t
-    lone_few =
-        let few : length (lones_from own is_lone 0 links) ≤ length (filter is_link (conflicts_of t)) =
-        held_are_few (lones_from own is_lone 0 links) (filter is_link (conflicts_of t)) (lones_differ own is_lone 0 links) (IsStrictlySortedBy-filter conflict_cmp is_link (conflicts_of t) (ordered t)) (each_from own is_lone (λ (q : Conflict). has q (filter is_link (conflicts_of t)) ≡ true) 0 links each) in
-        subst (λ (n : ℕ). n ≤ count_of_links t) (as_many own is_lone 0 links) few
-      where
-        each : (j : ℕ) (l : Link) → slice_get links j ≡ Some l → is_lone l ≡ true → has (lone own (0 + j)) (filter is_link (conflicts_of t)) ≡ true
-        each j l is lonely =
-            let zero : 0 + j ≡ j = omega arith in
-            subst (λ (n : ℕ). has (lone own n) (filter is_link (conflicts_of t)) ≡ true) (sym zero)
-            (among_links (lone own j) (lone_stands t own ahead whole_then.rising (found_then s whole next kind to goal can) j l (slice_get_within links j l is) is (lacks l lonely)))
-
-    pub few_new : count_of_lone s to first ≤ count_of_links (applied s (Add kind to goal))
-    few_new = subst (λ (w : PlanState). count_of_lone s to first ≤ count_of_links w) (by_replacing s whole next kind to goal can).is lone_few
+    pub new_lone : AreLone (applied s (Add kind to goal)) s.next_id (count_of_lone s to first) (lones_from own is_lone 0 (links_of s.model first))
+    new_lone =
+        let then_ : AreLone t s.next_id (count_of_lone s to first) (lones_from own is_lone 0 (links_of s.model first)) = gathered t whole_then.rising own ahead (found_then s whole next kind to goal can) is_lone lacks in
+        subst (λ (w : PlanState). AreLone w s.next_id (count_of_lone s to first) (lones_from own is_lone 0 (links_of s.model first))) (by_replacing s whole next kind to goal can).is then_

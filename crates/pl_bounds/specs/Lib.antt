@@ -32,3 +32,5 @@ pub mod Changed
 pub mod Tallies
 pub mod Looks
 pub mod Ties
+pub mod Orders
+pub mod Remaining

@@ -15,6 +15,7 @@ use Rattle.pl_semantics.specs.PlanStates.{among, floor_of, found, goal_at}
 use Rattle.pl_semantics.specs.Conflicts.{conflicts_of}
 use Rattle.pl_semantics.specs.Moves.{applied}
 use Rattle.pl_bounds.specs.Plain.{is_plain, count_of_plain}
+use Rattle.pl_bounds.specs.Remaining.{listed_links}
 use Rattle.pl_bounds.specs.declared.standing.Standing.{Standing}
 
 -- a shift changes at most from when it is told: an open goal, or what is wrong with an activity but for its start
@@ -57,11 +58,12 @@ is_elsewhere ids q = is_plain q && (is_open_one q || not (among q.subject ids))
 abbrev pub count_of_elsewhere : PlanState → List ℕ → ℕ
 count_of_elsewhere s ids = length (filter (is_elsewhere ids) (conflicts_of s))
 
--- no more than stand
+-- no more than stand, and each conflict of links
 pub record IsStandingOf (s : PlanState) (o : Standing) : Type 0 where
   pub plain : o.wrong ≤ count_of_plain s
   pub unmoved : o.unmoved ≤ count_of_unmoved s
   pub valueless : o.valueless ≤ count_of_valueless s
+  pub links : o.links.items ≡ listed_links s
 
 -- the goal that the activity of this id serves
 pub record IsServedBy (s : PlanState) (id : ℕ) (g : Goal) : Type 0 where

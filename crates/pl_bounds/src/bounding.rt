@@ -1,5 +1,5 @@
 //! How often timelines are past their limits at least, once some demands went and others came.
-ghost use Rattle.std.specs.Prelude.{◌≡◌, ◌≤◌, ◌<◌, ℕ, Bool, List, [], false, All, length, IfSome, IsTrue};
+ghost use Rattle.std.specs.Prelude.{◌≡◌, ◌≤◌, ℕ, Bool, List, [], false, All, length, IsTrue};
 ghost use Rattle.pl_update.specs.Changes.Replaced.{CanReplace, with_plan};
 ghost use Rattle.pl_update.specs.Timelines.Laws.{AreOnce};
 ghost use Rattle.pl_plan.specs.declared.activity.Activity.{Activity};
@@ -15,13 +15,13 @@ ghost use Rattle.pl_bounds.specs.Tallies.{fresh, IsTallyOf};
 
 use crate::added::{Added, Change, added_at};
 use crate::asking::Asking;
-use crate::outside::{Look, Outside, Side};
+use crate::outside::{Look, Outside};
 use crate::pulls::Way;
 use crate::reading::{is_past, value_at};
-use crate::sorting::{Part, coming_on, going_on};
+use crate::sorting::{Part, bears_on, coming_on, going_on};
 use crate::tally::Tally;
+use crate::worse::{may_be_past, worse_within};
 use pl_board::Board;
-use pl_semantics::{Asked, Demand};
 
 // The tally with whether the timeline is past its limit at a look, if that is known.
 fn looked_at(tally: Tally, outside: &Outside, added: Added, look: Look) -> Tally
@@ -34,34 +34,6 @@ fn looked_at(tally: Tally, outside: &Outside, added: Added, look: Look) -> Tally
         Some(value) => tally.noted(look.at, is_past(outside.side, outside.limit, value)),
         None => tally,
     }
-}
-
-// The moment from which on what is asked makes it worse, if it does.
-fn worsens(side: Side, asked: &Asked) -> Option<u32> {
-    match (side, asked) {
-        (Side::Over, Asked::Use(u)) => Some(u.from),
-        (Side::Low, Asked::Effect(e)) if e.delta < 0 => Some(e.at),
-        (Side::High, Asked::Effect(e)) if 0 < e.delta => Some(e.at),
-        _ => None,
-    }
-}
-
-// A moment from one on and before another at which what comes makes it worse, if there is one.
-fn worse_within(outside: &Outside, change: &Change<'_>, from: u32, to: u32) -> Option<u32>
-    ensures { IfSome result (λ at. (from ≤ at) × (at < to)) }
-{
-    for demand in change.coming {
-        if demand.line != outside.line {
-            continue;
-        }
-        if let Some(t) = worsens(outside.side, &demand.asked) {
-            let at = change.way.moved(t);
-            if u64::from(from) <= at && at < u64::from(to) {
-                return Some(at as u32);
-            }
-        }
-    }
-    None
 }
 
 // The tally with a look before a moment at which what comes makes it worse, if there is one. Where it is past its limit already that
@@ -92,11 +64,33 @@ fn looked_before(
     }
 }
 
-// The tally of the looks so far, and what was last found to be added.
+// The tally of the looks so far, what was last found to be added, and what the timeline came to at the last look.
 #[derive(Clone, Copy)]
 struct Walk {
     tally: Tally,
     added: Added,
+    last: Option<i64>,
+}
+
+// The tally with a look between the last one and a moment, where it may be past its limit.
+fn looked_between(
+    board: &Board,
+    walk: Walk,
+    outside: &Outside,
+    change: &Change<'_>,
+    added: Added,
+    to: u32,
+) -> Tally
+    requires unspoiled { board.now.spoiled ≡ false }
+    requires of_plan { IsOutsideOf board.now.state outside.now }
+    requires tally { IsTallyOf (is_past_with board.now.state outside.now change.now.going.now (moved_by change.now.way change.now.coming.now)) board.now.state.moment board.now.state.model.horizon walk.tally }
+    ensures { IsTallyOf (is_past_with board.now.state outside.now change.now.going.now (moved_by change.now.way change.now.coming.now)) board.now.state.moment board.now.state.model.horizon result }
+{
+    if may_be_past(outside, walk.last, added) {
+        looked_before(board, walk.tally, outside, change, to)
+    } else {
+        walk.tally
+    }
 }
 
 // Goes on to a look at which as much is added as before.
@@ -107,28 +101,24 @@ fn gone_on(walk: Walk, outside: &Outside, look: Look) -> Walk
     Walk {
         tally: looked_at(walk.tally, outside, walk.added, look),
         added: walk.added,
+        last: Some(look.value),
     }
 }
 
 // Goes on to a look at which it has to be worked out how much is added.
-fn gone_anew(
-    board: &Board,
-    tally: Tally,
-    outside: &Outside,
-    change: &Change<'_>,
-    look: Look,
-) -> Walk
+fn gone_anew(board: &Board, walk: Walk, outside: &Outside, change: &Change<'_>, look: Look) -> Walk
     requires unspoiled { board.now.spoiled ≡ false }
     requires of_plan { IsOutsideOf board.now.state outside.now }
-    requires tally { IsTallyOf (is_past_with board.now.state outside.now change.now.going.now (moved_by change.now.way change.now.coming.now)) board.now.state.moment board.now.state.model.horizon tally }
+    requires tally { IsTallyOf (is_past_with board.now.state outside.now change.now.going.now (moved_by change.now.way change.now.coming.now)) board.now.state.moment board.now.state.model.horizon walk.tally }
     requires right { look.value ≡ value_at board.now.state outside.now.side outside.now.line look.at }
     ensures { IsWalkOf board.now.state outside.now change.now.going.now (moved_by change.now.way change.now.coming.now) result }
 {
-    let before = looked_before(board, tally, outside, change, look.at);
     let added = added_at(outside, change, look.at);
+    let before = looked_between(board, walk, outside, change, added, look.at);
     Walk {
         tally: looked_at(before, outside, added, look),
         added,
+        last: Some(look.value),
     }
 }
 
@@ -143,7 +133,7 @@ fn gone_to(board: &Board, walk: Walk, outside: &Outside, change: &Change<'_>, lo
     if walk.added.is_known_at(look.at) {
         gone_on(walk, outside, look)
     } else {
-        gone_anew(board, walk.tally, outside, change, look)
+        gone_anew(board, walk, outside, change, look)
     }
 }
 
@@ -162,7 +152,9 @@ fn times_behind(board: &Board, walk: Walk, outside: &Outside, change: &Change<'_
     if is_steady(walk) {
         walk.tally.times
     } else {
-        looked_before(board, walk.tally, outside, change, walk.tally.end).times
+        let end = walk.tally.end;
+        let added = added_at(outside, change, end.saturating_sub(1));
+        looked_between(board, walk, outside, change, added, end).times
     }
 }
 
@@ -175,7 +167,8 @@ fn times_of(board: &Board, ahead: Tally, outside: &Outside, change: &Change<'_>)
 {
     let mut walk = Walk {
         tally: ahead,
-        added: added_at(outside, change, ahead.next),
+        added: Added::unknown(),
+        last: None,
     };
     let looks = outside.looks.as_slice();
     for look in looks {
@@ -205,6 +198,11 @@ fn times_by(board: &Board, ahead: Tally, outside: &Outside, change: &Change<'_>)
     }
 }
 
+// Whether a timeline is not past its limit now, and nothing of these parts seems to bring it past.
+fn is_out_of_reach(outside: &Outside, parts: &[Part]) -> bool {
+    outside.is_clear() || outside.times == 0 && !bears_on(parts, outside.line)
+}
+
 // The same once what is asked stands at a start, and what goes is gone.
 fn times_with(
     board: &Board,
@@ -220,7 +218,7 @@ fn times_with(
     requires parts { All (IsPartOf asking.now) parts.now }
     ensures { result ≤ length (spans_ahead board.now.state (is_past_with board.now.state outside.now asking.now.going.items (coming_at asking.now start))) }
 {
-    if outside.looks.is_empty() {
+    if is_out_of_reach(outside, parts) {
         return 0;
     }
     let change = Change {

@@ -14,6 +14,7 @@ ghost use Rattle.pl_bounds.specs.Standing.{IsStandingOf};
 ghost use Rattle.pl_bounds.specs.Ties.{count_of_links};
 
 use crate::bounding::past_after;
+use crate::orders::unmet_then;
 use crate::outside::{Outside, outsides};
 use crate::runs::{Run, run_like, run_of};
 use crate::standing::{Standing, standing_of};
@@ -77,7 +78,13 @@ fn least_by(board: &Board, outsides: &[Outside], run: &Run, mv: &RepairMove) -> 
     let start = start_of(mv);
     let steady = run.known.steady_at(start);
     let lone = lone_then(board, run.known.alone, start);
-    let least = steady.saturating_add(lone).saturating_add(others);
+    let unmet = unmet_then(board, run.known.alone, start);
+    let links = run
+        .known
+        .untouched
+        .saturating_add(lone)
+        .saturating_add(unmet);
+    let least = steady.saturating_add(links).saturating_add(others);
     least.max(least_left(board.state(), mv))
 }
 
@@ -139,7 +146,7 @@ fn bounds_of_each(
     requires allowed { All (CanBeMade board.now.state) moves.now }
     ensures { IfOk result (λ ns. AreLeast board.now.state moves.now ns.items) }
 {
-    let standing = standing_of(board);
+    let standing = standing_of(alloc, board)?;
     let mut past = outsides(alloc, board)?;
     let mut runs: Vec<Run> = Vec::new(alloc);
     let mut bounds = Vec::with_capacity(alloc, moves.len())?;

@@ -6,7 +6,8 @@ ghost use Rattle.pl_bounds.specs.Standing.{is_elsewhere, is_open_one};
 use crate::standing::{count_if, is_plain};
 use pl_conflict::{Code, Conflict, ConflictSet};
 
-fn is_among(id: u32, ids: &[u32]) -> bool
+/// Whether it is one of these.
+pub(crate) fn is_among(id: u32, ids: &[u32]) -> bool
     ensures { result ≡ among id ids.now }
 {
     ids.iter().any(|other| *other == id)

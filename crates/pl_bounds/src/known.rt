@@ -13,6 +13,7 @@ use crate::standing::{Standing, count_if};
 use crate::steady::{left_by_deletion, left_by_new, left_by_shift};
 use crate::subtrees::subtree;
 use crate::tying::{added_alone, moved_alone};
+use crate::untouched::{left_alone_by_deletion, left_alone_by_new, left_alone_by_shift};
 use crate::window::{Window, is_off, window_of};
 use pl_board::Board;
 use pl_links::Placed;
@@ -21,12 +22,14 @@ use pl_semantics::PlanState;
 use std::alloc::{AllocError, Global};
 
 /// Of a move, and of those that go on with it: how many conflicts of goals and activities each leaves at least, and one more where it
-/// starts outside a window; the activity that it moves alone or adds; and what it asks for.
+/// starts outside a window; how many conflicts of links each leaves as they stand; the activity that it moves alone or adds; and what
+/// it asks for.
 #[derive(Drop)]
 pub(crate) struct Known {
     pub(crate) first: RepairMove,
     pub(crate) steady: u32,
     pub(crate) window: Option<Window>,
+    pub(crate) untouched: u32,
     pub(crate) alone: Option<Placed>,
     pub(crate) asking: Option<Asking>,
 }
@@ -63,6 +66,7 @@ fn known_of_new(
         first: RepairMove::Add { kind, start, goal },
         steady,
         window: None,
+        untouched: left_alone_by_new(standing, kind),
         alone: Some(added_alone(&alone, s.next_id, kind, start)),
         asking: Some(asking),
     })
@@ -72,11 +76,13 @@ fn known_of_new(
 fn known_of_deletion(
     alloc: Global,
     board: &Board,
+    standing: &Standing,
     id: u32,
     is_asked: bool,
 ) -> Result<Known, AllocError>
     requires unspoiled { board.now.spoiled ≡ false }
     requires next { board.now.state.next_id ≤ 3999999000 }
+    requires standing { IsStandingOf board.now.state standing.now }
     requires allowed { CanBeMade board.now.state (Delete id) }
     ensures known { IfOk result (λ k. IsKnownOf board.now.state k) }
     ensures alike { IfOk result (λ k. IsAlike k.first (Delete id)) }
@@ -89,6 +95,7 @@ fn known_of_deletion(
         first: RepairMove::Delete { id },
         steady,
         window: None,
+        untouched: left_alone_by_deletion(board, standing, id, &subtree),
         alone: None,
         asking,
     })
@@ -113,11 +120,13 @@ fn known_of_shift(
     let s = board.state();
     let subtree = subtree(alloc, s, id)?;
     let steady = left_by_shift(board, standing, id, &subtree);
+    let untouched = left_alone_by_shift(alloc, board, standing, id, &subtree)?;
     let asking = shifted_if(alloc, board, id, &subtree, is_asked)?;
     Ok(Known {
         first: RepairMove::Shift { id, start },
         steady,
         window: window_of(s, id),
+        untouched,
         alone: moved_alone(board, id, &subtree),
         asking,
     })
@@ -131,6 +140,7 @@ fn known_of_other(mv: &RepairMove, steady: u32) -> Known
         first: *mv,
         steady,
         window: None,
+        untouched: 0,
         alone: None,
         asking: None,
     }
@@ -156,7 +166,7 @@ pub(crate) fn known_of(
         RepairMove::Add { kind, start, goal } => known_of_new(
             alloc, s, standing, kind, start, goal,
         ),
-        RepairMove::Delete { id } => known_of_deletion(alloc, board, id, is_asked),
+        RepairMove::Delete { id } => known_of_deletion(alloc, board, standing, id, is_asked),
         RepairMove::Shift { id, start } => known_of_shift(
             alloc, board, standing, id, start, is_asked,
         ),

@@ -1,21 +1,23 @@
 //! Looks at a timeline where it is past its limit, and a moment before and behind.
 ghost use Rattle.std.specs.Prelude.{◌≡◌, false, IfOk, OnOk};
 ghost use Rattle.pl_bounds.specs.Looks.{IsLimited, AreLooksAt};
-ghost use Rattle.pl_bounds.specs.Sides.{code_of};
+ghost use Rattle.pl_bounds.specs.Sides.{code_of, value_at};
 
-use crate::outside::{Bars, Look, Side};
-use crate::parting::{Parting, parting_in};
-use crate::reading::{is_past, value_at};
-use crate::stretch::{comes_past, stretch_ahead};
+use crate::crossing::{first_back, first_past};
+use crate::outside::{Look, Outside, Side};
+use crate::reading::value_at;
 use pl_board::Board;
 use pl_conflict::{Code, Conflict};
 use std::alloc::{AllocError, Global};
 
-// Looks by rising moments, and the first moment behind them.
+// Of one bar at most so many crossings are looked at.
+const CROSSINGS: u32 = 8;
+
+/// Looks by rising moments, and the first moment behind them.
 #[derive(Drop)]
-struct Looking {
-    looks: Vec<Look>,
-    next: u32,
+pub(crate) struct Looking {
+    pub(crate) looks: Vec<Look>,
+    pub(crate) next: u32,
 }
 
 fn code_of(side: Side) -> Code
@@ -45,98 +47,53 @@ impl Looking {
         Ok(())
     }
 
-    // Looks where a span may be parted in two, and before and behind.
-    fn look_at_parting(
+    /// With a look of before, if it is behind those that are there.
+    pub(crate) fn keep(
         &mut self,
         board: &Board,
-        side: Side,
-        line: u32,
-        parting: Parting,
+        outside: &Outside,
+        look: Look,
     ) -> Result<(), AllocError>
-        requires unspoiled { board.now.spoiled ≡ false }
-        requires limited { IsLimited board.now.state side line }
-        requires looks { AreLooksAt board.now.state side line self.old.next self.old.looks.items }
-        ensures { OnOk result (AreLooksAt board.now.state side line self.new.next self.new.looks.items) }
+        requires right { look.value ≡ value_at board.now.state outside.now.side outside.now.line look.at }
+        requires looks { AreLooksAt board.now.state outside.now.side outside.now.line self.old.next self.old.looks.items }
+        ensures { OnOk result (AreLooksAt board.now.state outside.now.side outside.now.line self.new.next self.new.looks.items) }
     {
-        self.look(board, side, line, parting.before.at)?;
-        self.look(board, side, line, parting.nearest.at)?;
-        self.look(board, side, line, parting.behind.at)?;
-        Ok(())
-    }
-
-    // Looks inside a span where it may be parted in two; where it may not, nothing is looked at.
-    fn look_inside(
-        &mut self,
-        board: &Board,
-        side: Side,
-        line: u32,
-        conflict: &Conflict,
-    ) -> Result<(), AllocError>
-        requires unspoiled { board.now.spoiled ≡ false }
-        requires limited { IsLimited board.now.state side line }
-        requires looks { AreLooksAt board.now.state side line self.old.next self.old.looks.items }
-        ensures { OnOk result (AreLooksAt board.now.state side line self.new.next self.new.looks.items) }
-    {
-        match parting_in(board, side, line, conflict) {
-            Some(parting) => self.look_at_parting(board, side, line, parting),
-            None => Ok(()),
-        }
-    }
-
-    fn look_if(
-        &mut self,
-        board: &Board,
-        side: Side,
-        line: u32,
-        at: u32,
-        is_worth_it: bool,
-    ) -> Result<(), AllocError>
-        requires unspoiled { board.now.spoiled ≡ false }
-        requires limited { IsLimited board.now.state side line }
-        requires looks { AreLooksAt board.now.state side line self.old.next self.old.looks.items }
-        ensures { OnOk result (AreLooksAt board.now.state side line self.new.next self.new.looks.items) }
-    {
-        if !is_worth_it {
+        if look.at < self.next || board.model().horizon <= look.at {
             return Ok(());
         }
-        self.look(board, side, line, at)?;
+        self.looks.push(look)?;
+        self.next = look.at + 1;
         Ok(())
     }
 
-    // If there are no looks yet: looks at some moments ahead, and keeps those at which it comes past a bar, and those at which it comes
-    // back.
+    // Looks where a level comes past a bar, and where it comes back.
     fn look_at_crossings(
         &mut self,
         board: &Board,
         side: Side,
         line: u32,
-        bars: Bars,
+        bar: i64,
     ) -> Result<(), AllocError>
         requires unspoiled { board.now.spoiled ≡ false }
         requires limited { IsLimited board.now.state side line }
         requires looks { AreLooksAt board.now.state side line self.old.next self.old.looks.items }
         ensures { OnOk result (AreLooksAt board.now.state side line self.new.next self.new.looks.items) }
     {
-        if !self.looks.is_empty() {
-            return Ok(());
-        }
-        let stretch = stretch_ahead(board, self.next);
-        if !comes_past(board, side, line, bars.wide, stretch.sparser()) {
-            return Ok(());
-        }
-        let mut was_past = false;
-        let mut at = stretch.from;
-        'samples: while at < stretch.end {
-            let value = value_at(board, side, line, at);
-            let is_so = is_past(side, bars.close, value);
-            self.look_if(board, side, line, at, is_so != was_past)?;
-            was_past = is_so;
-            at = at.saturating_add(stretch.step);
+        let end = board.model().horizon;
+        let mut at = self.next;
+        let mut count = 0;
+        'crossings: while count < CROSSINGS && at < end {
+            let past = first_past(board, side, line, bar, at, end);
+            self.look(board, side, line, past)?;
+            let back = first_back(board, side, line, bar, past, end);
+            self.look(board, side, line, back)?;
+            at = back;
+            count += 1;
         }
         Ok(())
     }
 
-    // Looks where a span begins, where it may be parted in two, and where it ends.
+    // Looks where a span begins, and where it ends.
     fn look_round(
         &mut self,
         board: &Board,
@@ -151,21 +108,18 @@ impl Looking {
     {
         self.look(board, side, line, conflict.a.saturating_sub(1))?;
         self.look(board, side, line, conflict.a)?;
-        self.look_inside(board, side, line, conflict)?;
         self.look(board, side, line, conflict.b.saturating_sub(1))?;
         self.look(board, side, line, conflict.b)?;
         Ok(())
     }
 }
 
-/// What a timeline comes to round its spans that are past the limit. If there are none: where it comes past a bar close to the limit,
-/// and where it comes back.
+/// What a timeline comes to round its spans that are past the limit.
 pub(crate) fn looks_at(
     alloc: Global,
     board: &Board,
     side: Side,
     line: u32,
-    bars: Bars,
 ) -> Result<Vec<Look>, AllocError>
     requires unspoiled { board.now.spoiled ≡ false }
     requires limited { IsLimited board.now.state side line }
@@ -181,6 +135,25 @@ pub(crate) fn looks_at(
             looking.look_round(board, side, line, conflict)?;
         }
     }
-    looking.look_at_crossings(board, side, line, bars)?;
+    Ok(looking.looks)
+}
+
+/// What a level comes to where it comes past a bar, and where it comes back.
+pub(crate) fn looks_across(
+    alloc: Global,
+    board: &Board,
+    side: Side,
+    line: u32,
+    bar: i64,
+) -> Result<Vec<Look>, AllocError>
+    requires unspoiled { board.now.spoiled ≡ false }
+    requires limited { IsLimited board.now.state side line }
+    ensures { IfOk result (λ looks. AreLooksAt board.now.state side line board.now.state.model.horizon looks.items) }
+{
+    let mut looking = Looking {
+        looks: Vec::new(alloc),
+        next: board.state().moment,
+    };
+    looking.look_at_crossings(board, side, line, bar)?;
     Ok(looking.looks)
 }

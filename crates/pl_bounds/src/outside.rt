@@ -1,4 +1,4 @@
-//! Timelines past a limit of their own, or near it, each looked at at some moments.
+//! Timelines past a limit of their own, or which a move may bring past it, each looked at at some moments.
 ghost use Rattle.std.specs.Prelude.{◌≡◌, ◌≤◌, ℕ, Bool, false, Some, All, IfOk, OnOk, IfSome, length, slice_get};
 ghost use Rattle.pl_semantics.specs.Timelines.{spans_ahead};
 ghost use Rattle.pl_bounds.specs.Looks.{IsElse};
@@ -30,17 +30,8 @@ pub(crate) struct Look {
     pub(crate) value: i64,
 }
 
-// If a level nowhere comes within so many times what is asked of it of its limit, it is not looked at more closely.
-const WIDE: i64 = 4;
-
-/// Values nearer than a limit.
-#[derive(Clone, Copy)]
-pub(crate) struct Bars {
-    pub(crate) close: i64,
-    pub(crate) wide: i64,
-}
-
-/// A timeline and one of its limits, and how often it is past that now at least. Effects up to the moment `since` do not count.
+/// A timeline and one of its limits, and how often it is past that now at least. Effects up to the moment `since` do not
+/// count. It was looked at for what adds some amounts to it.
 #[derive(Drop)]
 pub(crate) struct Outside {
     pub(crate) line: u32,
@@ -48,7 +39,15 @@ pub(crate) struct Outside {
     pub(crate) limit: i64,
     pub(crate) since: u32,
     pub(crate) looks: Vec<Look>,
+    pub(crate) amounts: Vec<i64>,
     pub(crate) times: u32,
+}
+
+impl Outside {
+    /// Whether it is a level that nowhere comes so near to its limit that what it was looked at for brings it past.
+    pub(crate) fn is_clear(&self) -> bool {
+        self.side != Side::Over && self.looks.is_empty()
+    }
 }
 
 fn side_of(code: Code) -> Option<Side> {
@@ -84,31 +83,13 @@ fn times_now(board: &Board, ahead: Tally, side: Side, limit: i64, looks: &[Look]
     tally.times
 }
 
-// The limit so much nearer.
-fn nearer(side: Side, limit: i64, amount: i64) -> i64 {
-    match side {
-        Side::Over => limit.saturating_sub(amount),
-        Side::Low => limit.saturating_add(amount),
-        Side::High => limit.saturating_sub(amount),
-    }
-}
-
-// For what may ask for so much: bars nearer than the limit by as much, and by some times as much.
-fn bars_for(side: Side, limit: i64, amount: i64) -> Bars {
-    Bars {
-        close: nearer(side, limit, amount),
-        wide: nearer(side, limit, amount.saturating_mul(WIDE)),
-    }
-}
-
-// The timeline with this limit, looked at for what may ask for so much more of it.
+// The timeline with this limit, looked at round the spans at which it is past it.
 fn outside_with(
     alloc: Global,
     board: &Board,
     side: Side,
     line: u32,
     limit: i64,
-    amount: i64,
 ) -> Result<Outside, AllocError>
     requires unspoiled { board.now.spoiled ≡ false }
     requires limited { limit_of side (slice_get board.now.state.model.timelines line) ≡ Some limit }
@@ -117,7 +98,7 @@ fn outside_with(
 {
     let s = board.state();
     let ahead = Tally::new(s.moment, s.model.get().horizon);
-    let looks = looks_at(alloc, board, side, line, bars_for(side, limit, amount))?;
+    let looks = looks_at(alloc, board, side, line)?;
     let times = times_now(board, ahead, side, limit, looks.as_slice());
     Ok(Outside {
         line,
@@ -125,6 +106,7 @@ fn outside_with(
         limit,
         since: since(s, side, line),
         looks,
+        amounts: Vec::new(alloc),
         times,
     })
 }
@@ -135,25 +117,23 @@ fn outside_at(
     board: &Board,
     side: Side,
     line: u32,
-    amount: i64,
 ) -> Result<Option<Outside>, AllocError>
     requires { board.now.spoiled ≡ false }
     ensures of_plan { IfOk result (λ found. IfSome found (IsOutsideOf board.now.state)) }
     ensures here { IfOk result (λ found. IfSome found (λ o. (o.line ≡ line) × (o.side ≡ side))) }
 {
     match limit_of(board.model(), side, line) {
-        Some(limit) => Ok(Some(outside_with(alloc, board, side, line, limit, amount)?)),
+        Some(limit) => Ok(Some(outside_with(alloc, board, side, line, limit)?)),
         None => Ok(None),
     }
 }
 
-/// With one more, looked at for what may ask for so much more of it, if it is not there.
+/// With one more, if it is not there.
 pub(crate) fn add(
     alloc: Global,
     board: &Board,
     side: Side,
     line: u32,
-    amount: i64,
     all: &mut Vec<Outside>,
 ) -> Result<(), AllocError>
     requires unspoiled { board.now.spoiled ≡ false }
@@ -165,7 +145,7 @@ pub(crate) fn add(
     if is_there(all.as_slice(), side, line) {
         return Ok(());
     }
-    match outside_at(alloc, board, side, line, amount)? {
+    match outside_at(alloc, board, side, line)? {
         Some(outside) => {
             all.push(outside)?;
             Ok(())
@@ -183,7 +163,7 @@ pub(crate) fn outsides(alloc: Global, board: &Board) -> Result<Vec<Outside>, All
     let mut all = Vec::new(alloc);
     for conflict in board.conflicts().iter() {
         if let Some(side) = side_of(conflict.code) {
-            add(alloc, board, side, conflict.subject, 0, &mut all)?;
+            add(alloc, board, side, conflict.subject, &mut all)?;
         }
     }
     Ok(all)

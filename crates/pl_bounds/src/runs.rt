@@ -26,13 +26,7 @@ pub(crate) struct Run {
     pub(crate) parts: Vec<Part>,
 }
 
-// Whether it adds a root for a goal.
-fn serves(mv: &RepairMove) -> bool {
-    matches!(mv, RepairMove::Add { goal: Some(_), .. })
-}
-
-// With the limits that what comes may pass, where a root is added for a goal. For the many other moves of a choice it would cost more
-// than it saves.
+// With the limits that what comes may pass, where a root is added. For the many shifts of a choice it would cost more than it saves.
 fn widen_for(
     alloc: Global,
     board: &Board,
@@ -46,7 +40,7 @@ fn widen_for(
     ensures of_plan { OnOk result (All (IsOutsideOf board.now.state) past.new.items) }
     ensures different { OnOk result (AreDifferent past.new.items) }
 {
-    if !serves(mv) {
+    if !matches!(mv, RepairMove::Add { .. }) {
         return Ok(());
     }
     widen(alloc, board, asking.coming.as_slice(), past)?;

@@ -84,7 +84,7 @@ fn add_part(
     requires { All (IsPartOf asking.now) parts.old.items }
     ensures { OnOk result (All (IsPartOf asking.now) parts.new.items) }
 {
-    if outside.looks.is_empty() || part_on(parts.as_slice(), outside.line).is_some() {
+    if outside.is_clear() || part_on(parts.as_slice(), outside.line).is_some() {
         return Ok(());
     }
     let part = part_of(alloc, asking, outside.line)?;
@@ -108,6 +108,14 @@ pub(crate) fn parts_of(
         add_part(alloc, asking, outside, &mut parts)?;
     }
     Ok(parts)
+}
+
+/// Whether something goes or comes of what bears on a timeline, as far as these parts tell.
+pub(crate) fn bears_on(parts: &[Part], line: u32) -> bool {
+    match part_on(parts, line) {
+        Some(part) => !part.going.is_empty() || !part.coming.is_empty(),
+        None => false,
+    }
 }
 
 /// What goes of what bears on a timeline.

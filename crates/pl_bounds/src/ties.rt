@@ -38,8 +38,8 @@ fn lone_of(board: &Board, own: &Placed) -> u32
     count
 }
 
-// The activity as it stands at another start, if it is firm and has an end there.
-fn placed_at(own: &Placed, start: u32) -> Option<Placed>
+/// The activity as it stands at another start, if it is firm and has an end there.
+pub(crate) fn placed_at(own: &Placed, start: u32) -> Option<Placed>
     ensures { IfSome result (λ p. p ≡ placed_at start own.now) }
 {
     let duration = own.end?.checked_sub(own.start)?;

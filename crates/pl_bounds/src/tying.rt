@@ -1,12 +1,14 @@
-//! The activity that a move places alone, with its end: of its links that find no partner at the start that a move gives, each is a
-//! conflict then.
-ghost use Rattle.std.specs.Prelude.{◌≡◌, ◌≤◌, ℕ, false};
+//! The activity that a move places alone, with its end: of its links that find no partner at the start that a move gives, and of the
+//! orders of its parent that are not met then, each is a conflict, beside those that the move does not touch.
+ghost use Rattle.std.specs.Prelude.{◌≡◌, ◌≤◌, ◌+◌, ℕ, false};
 ghost use Rattle.pl_moves.specs.Runs.{CanBeMade};
 ghost use Rattle.pl_plan.specs.Activities.{IsLive};
 ghost use Rattle.pl_plan.specs.Trees.{subtree_of};
 ghost use Rattle.pl_plan.specs.declared.repair.RepairMove.TheVariants.{Shift};
 ghost use Rattle.pl_semantics.specs.Moves.{applied};
 ghost use Rattle.pl_semantics.specs.Whole.{IsWhole};
+ghost use Rattle.pl_bounds.specs.Orders.{unmet_then};
+ghost use Rattle.pl_bounds.specs.Remaining.{IsLeftByShifting};
 ghost use Rattle.pl_bounds.specs.Ties.{lone_then, count_of_links, root_in};
 
 use pl_board::Board;
@@ -18,7 +20,7 @@ pub(crate) fn moved_alone(board: &Board, id: u32, subtree: &[u32]) -> Option<Pla
     requires unspoiled { board.now.spoiled ≡ false }
     requires next { board.now.state.next_id ≤ 3999999000 }
     requires subtree { subtree.now ≡ subtree_of id board.now.state.plan.activities }
-    ensures { (to : ℕ) → CanBeMade board.now.state (Shift id to) → lone_then board.now.state to result ≤ count_of_links (applied board.now.state (Shift id to)) }
+    ensures { (to n : ℕ) → CanBeMade board.now.state (Shift id to) → IsLeftByShifting board.now.state id n → n + lone_then board.now.state to result + unmet_then board.now.state to result ≤ count_of_links (applied board.now.state (Shift id to)) }
 {
     let _state = board.state();
     if subtree.len() != 1 {

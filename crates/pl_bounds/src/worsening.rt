@@ -1,22 +1,44 @@
-//! Limits of levels that what a move adds may pass.
+//! Limits of timelines that what a move adds may pass.
 ghost use Rattle.std.specs.Prelude.{◌≡◌, false, All, OnOk};
 ghost use Rattle.pl_bounds.specs.Sides.{IsOutsideOf, AreDifferent};
 
 use crate::outside::{Outside, Side, add};
+use crate::widening::widen_at;
 use pl_board::Board;
 use pl_semantics::{Asked, Demand};
 use std::alloc::{AllocError, Global};
 
-// The side on which it makes a level worse, and by how much. A use of a capacity is over when its activity is.
-fn worsening(asked: &Asked) -> Option<(Side, i64)> {
-    match asked {
-        Asked::Effect(e) if e.delta < 0 => Some((Side::Low, 0i64.saturating_sub(e.delta))),
-        Asked::Effect(e) => Some((Side::High, e.delta)),
-        _ => None,
-    }
+// Which limit of a level so much more brings nearer.
+fn nearer(amount: i64) -> Side {
+    if amount < 0 { Side::Low } else { Side::High }
 }
 
-// With the limit of a level that a demand may pass.
+// Which one it takes further away.
+fn further(amount: i64) -> Side {
+    if amount < 0 { Side::High } else { Side::Low }
+}
+
+// With the limits of a level, each looked at for so much more: the one that comes nearer, and the other if it is passed now.
+fn widen_level(
+    alloc: Global,
+    board: &Board,
+    line: u32,
+    amount: i64,
+    past: &mut Vec<Outside>,
+) -> Result<(), AllocError>
+    requires unspoiled { board.now.spoiled ≡ false }
+    requires of_plan { All (IsOutsideOf board.now.state) past.old.items }
+    requires different { AreDifferent past.old.items }
+    ensures of_plan { OnOk result (All (IsOutsideOf board.now.state) past.new.items) }
+    ensures different { OnOk result (AreDifferent past.new.items) }
+{
+    add(alloc, board, nearer(amount), line, past)?;
+    widen_at(alloc, board, nearer(amount), line, amount, past)?;
+    widen_at(alloc, board, further(amount), line, amount, past)?;
+    Ok(())
+}
+
+// With the limits of a timeline that a demand may pass.
 fn widen_by(
     alloc: Global,
     board: &Board,
@@ -29,9 +51,10 @@ fn widen_by(
     ensures of_plan { OnOk result (All (IsOutsideOf board.now.state) past.new.items) }
     ensures different { OnOk result (AreDifferent past.new.items) }
 {
-    match worsening(&demand.asked) {
-        Some((side, amount)) => add(alloc, board, side, demand.line, amount, past),
-        None => Ok(()),
+    match &demand.asked {
+        Asked::Use(_) => add(alloc, board, Side::Over, demand.line, past),
+        Asked::Effect(e) => widen_level(alloc, board, demand.line, e.delta, past),
+        _ => Ok(()),
     }
 }
 

@@ -27,6 +27,6 @@ assigns_if_free bindings id p = if is_free bindings p then assigns id p else []
 abbrev pub assigns_as : ℕ → ℕ → Param → List RepairMove
 assigns_as id n p = assigns id (n, p)
 
--- an activity that serves a goal, from start to start of its window
+-- additions of an activity that serves a goal, one for each start that is tried in its window
 abbrev pub serving : PlanState → Goal → List RepairMove
 serving s g = flat_map (starting s (λ start. Add g.kind start (Some g.number))) (spread (int_max (pos g.earliest) (floor_at s)) (int_min (pos g.latest) (last_of s)))

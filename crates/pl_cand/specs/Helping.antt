@@ -11,6 +11,6 @@ is_helper line help k = list_any (helps line help) k.1.reservations
 abbrev pub number_of : ℕ × Kind → ℕ
 number_of k = k.0
 
--- what is there, and what comes of the other kinds
+-- the numbers found so far, and those that will be found among the other kinds
 abbrev pub helpers_with : ℕ → Help → List ℕ → List (ℕ × Kind) → List ℕ
 helpers_with line help found rest = found ++ map number_of (take (4 - length found) (filter (is_helper line help) rest))

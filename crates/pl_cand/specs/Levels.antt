@@ -14,7 +14,7 @@ IsToldAt moment (Some (at, value)) = at ≤ℤ pos moment
 abbrev pub HasBase : PlanState → ℕ → Type 0
 HasBase s line = IsToldAt s.moment (base_of line s.bases)
 
--- a reservation that raises or lowers is of a timeline that has a base
+-- a reservation that raises or lowers a level is on a timeline that has a base
 abbrev pub IsOfLevel : PlanState → Reservation → Type 0
 IsOfLevel s (Raise line e point) = HasBase s line
 IsOfLevel s (Lower line e point) = HasBase s line

@@ -1,4 +1,4 @@
--- Marks at the places of moves.
+-- Marks of moves, each at a place that the move determines.
 use Rattle.std.specs.Prelude.{◌≡◌, ℕ, ◌+◌, ◌*◌, ◌%◌, Bool, true, false, List, ◌∷◌, [], ◌++◌, All, slice_index_or}
 use Rattle.pl_plan.specs.declared.repair.RepairMove.{RepairMove}
 use Rattle.pl_plan.specs.declared.repair.RepairMove.TheVariants.{Add, Delete, Shift}
@@ -20,6 +20,6 @@ is_marked marks m = slice_index_or marks (place_of m) false
 abbrev pub AreMarked : List Bool → List RepairMove → Type 0
 AreMarked marks kept = All (λ m. is_marked marks m ≡ true) kept
 
--- moves that were marked are so still, and one more is
+-- moves that were marked still are, and one more is
 abbrev pub KeepsMarked : List Bool → List Bool → RepairMove → Type 0
 KeepsMarked marks marks' m = (kept : List RepairMove) → AreMarked marks kept → AreMarked marks' (kept ++ m ∷ [])

@@ -1,4 +1,4 @@
--- Numbers that are added and spread without leaving their type.
+-- Numbers so near 0 that sums and steps of them fit their type.
 use Rattle.pl_model.specs.declared.links.Link.{Link}
 use Rattle.pl_model.specs.declared.parameters.Param.{Param}
 use Rattle.std.specs.Prelude.{ℤ, pos, neg_ℤ, ◌≤ℤ◌}
@@ -7,7 +7,7 @@ use Rattle.std.specs.Prelude.{ℤ, pos, neg_ℤ, ◌≤ℤ◌}
 abbrev pub IsNear : ℤ → Type 0
 IsNear z = (neg_ℤ (pos 1000000000000) ≤ℤ z) × (z ≤ℤ pos 1000000000000)
 
--- the least and the greatest value
+-- its least and its greatest value are near 0
 abbrev pub AreNear : Param → Type 0
 AreNear p = IsNear p.low × IsNear p.high
 
@@ -15,7 +15,7 @@ AreNear p = IsNear p.low × IsNear p.high
 abbrev pub IsClose : ℤ → Type 0
 IsClose z = (neg_ℤ (pos 10000000) ≤ℤ z) × (z ≤ℤ pos 10000000)
 
--- the least and the greatest distance
+-- its least and its greatest distance are close to 0
 abbrev pub AreClose : Link → Type 0
 AreClose l = IsClose l.low × IsClose l.high
 

@@ -1,4 +1,4 @@
--- What is told of a move without listing all that is tried.
+-- What is known of a move without a list of all moves that are tried.
 use Rattle.std.specs.Prelude.{◌≡◌, ◌≤◌, ◌==◌, ◌+◌, ℕ, nat_lt, nat_le, Bool, true, false, ◌&&◌, ◌||◌, ℤ, pos, List, [], ◌++◌, length, filter, take, Some, if◌then◌else◌}
 use Rattle.std.specs.Int.{int_min, int_max}
 use Rattle.std.specs.Ordering.{int_eq}
@@ -20,15 +20,15 @@ use Rattle.pl_cand.specs.declared.role.Role.TheVariants as role
 use Rattle.pl_cand.specs.declared.told.Told.{Told}
 use Rattle.pl_cand.specs.declared.told.Told.TheVariants as told
 
--- ---- what is told
+-- ---- what is known
 
--- the move is one of the first 256 of these, or it is none of them, or nothing is told
+-- the move is one of the first 256 of these, or it is none of them, or nothing is known
 abbrev pub Tells : List RepairMove → RepairMove → Told → Type 0
 Tells tried m told.Early = list_any (same_move m) (take 256 tried) ≡ true
 Tells tried m told.Untried = list_any (same_move m) tried ≡ false
 Tells tried m told.Unknown = Unit {0}
 
--- what is told of a move that stands among so many
+-- what is known of a move that stands among the first so many
 abbrev pub told_within : ℕ → Told
 told_within most = if nat_le most 256 then told.Early else told.Unknown
 
@@ -38,13 +38,13 @@ told_within most = if nat_le most 256 then told.Early else told.Unknown
 abbrev pub players_of : PlanState → ℕ → Role → List Activity
 players_of s line part = take 8 (filter (is_user s line part) s.plan.activities)
 
--- the shifts of a user away from the span, where there is one
+-- the shifts of a user of a capacity out of the span
 abbrev pub away : PlanState → Role → Activity → List RepairMove
 away s (role.Uses a b) x = around s a b x
 away s (role.ChangesBelow b w) x = []
 
--- what is told where of the users some were looked at, none of whose moves is the move, and so many moves stand before those
--- of the rest
+-- Some users were looked at (`done`), and none of their moves is this one, nor is any that helps. At most `most` moves stand before
+-- those of the users that are left (`rest`). `t` is what is then known of the move among the moves of all users.
 abbrev pub TellsRest : PlanState → Role → RepairMove → ℕ → List Activity → Told → Type 0
 TellsRest s part m most rest t = (help : List RepairMove) (done : List Activity)
     → length help + (length (flat_map (away s part) (done ++ rest)) + length (flat_map (moves_of s) done)) ≤ most

@@ -1,4 +1,4 @@
--- Which kinds help with a timeline, and which activities are shifted away.
+-- Which kinds help with a timeline, and which activities are its users, for which moves are tried.
 use Rattle.std.specs.Prelude.{ℕ, nat_lt, ◌==◌, Bool, false, ◌&&◌, not, pos, int_lt, List, ◌++◌, ◌-◌, map, take, filter, length}
 use Rattle.pl_model.specs.declared.reservations.Reservation.{Reservation}
 use Rattle.pl_model.specs.declared.reservations.Reservation.TheVariants.{Take, Raise, Lower}
@@ -41,7 +41,7 @@ abbrev pub uses_in : ℕ → ℕ → ℕ → ℕ → ℕ → Row → Reservation
 uses_in line a b start end values (Take l e) = (l == line) && (int_lt (pos 0) (amount_in values e) && (nat_lt start b && nat_lt a end))
 uses_in line a b start end values _ = false
 
--- it takes of the timeline, and its activity starts before a moment
+-- it takes from the timeline, and its activity starts before a moment
 abbrev pub may_take : ℕ → ℕ → ℕ → Reservation → Bool
 may_take line b start (Take l e) = (l == line) && nat_lt start b
 may_take line b start _ = false
@@ -59,6 +59,6 @@ changes_at _ s line b a _ = false
 
 -- ---- the first eight users
 
--- what is there, and what comes of the other activities
+-- the ids found so far, and those that will be found among the other activities
 abbrev pub users_with : PlanState → ℕ → Role → List ℕ → List Activity → List ℕ
 users_with s line part ids rest = ids ++ map id_of (take (8 - length ids) (filter (is_user s line part) rest))

@@ -233,7 +233,7 @@ pub(crate) fn for_undetailed(
     Ok(())
 }
 
-/// Appends the shift by which a live activity, where it is firm, ends at this moment.
+/// Appends the shift by which a live activity ends at this moment, if it is firm.
 pub(crate) fn end_by(
     state: &PlanState,
     a: &Activity,
@@ -254,7 +254,7 @@ pub(crate) fn end_by(
     }
 }
 
-/// Appends the shift by which the activity ends at the horizon, and its moves.
+/// Appends the shift by which the activity ends at the horizon, and the moves of the activity.
 pub(crate) fn for_overrun(
     alloc: Global,
     state: &PlanState,

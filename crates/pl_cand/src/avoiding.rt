@@ -1,4 +1,4 @@
-//! Whether a move shifts an activity away from a span, told without listing these shifts.
+//! Whether a move is one of the two shifts that take an activity out of a span. It is answered without listing these shifts.
 ghost use Rattle.std.specs.Prelude.{◌≡◌, pos, Some};
 ghost use Rattle.std.specs.List.{list_any};
 ghost use Rattle.pl_plan.specs.Activities.{activity_of};
@@ -13,7 +13,7 @@ use crate::starts::is_shift_to;
 use pl_plan::{Activity, RepairMove};
 use pl_semantics::PlanState;
 
-// Whether a move is the shift by which an activity, where it is firm, ends at this moment.
+// Whether the activity is firm, and the move is the shift by which it ends at this moment.
 #[tactic(auto, using(crate::proofs::Starting::shift_to_stands))]
 fn is_end_by(state: &PlanState, a: &Activity, moment: u32, mv: &RepairMove) -> bool
     requires whole { IsWhole state.now }
@@ -29,7 +29,7 @@ fn is_end_by(state: &PlanState, a: &Activity, moment: u32, mv: &RepairMove) -> b
     }
 }
 
-// Whether a move is the shift of an activity to a start behind the span, or to an end before it.
+// Whether a move shifts an activity so that it starts where the span ends, or so that it ends where the span starts.
 #[tactic(auto, using(crate::proofs::Starting::around_stands))]
 fn is_shift_around(state: &PlanState, user: &Activity, a: u32, b: u32, mv: &RepairMove) -> bool
     requires whole { IsWhole state.now }
@@ -48,8 +48,8 @@ fn is_shift_of_id(mv: &RepairMove, user: u32) -> bool
     }
 }
 
-/// Whether a move is the shift of a live activity to a start behind the span, or to an end before it. The end is worked
-/// out only for a shift of this activity.
+/// Whether a move shifts a live activity so that it starts where the span ends, or so that it ends where the span starts. The end
+/// of the activity is worked out only if the move is a shift of this activity.
 pub(crate) fn is_around(state: &PlanState, user: &Activity, a: u32, b: u32, mv: &RepairMove) -> bool
     requires whole { IsWhole state.now }
     requires live { activity_of user.now.id state.now.plan.activities ≡ Some user.now }

@@ -12,13 +12,14 @@ use std::alloc::{AllocError, Global};
 
 /// Chooses the next repair.
 pub trait Chooser: Drop {
-    // The chooser before, the plan state, what is proposed, and the chooser after.
+    // How it chooses: the chooser before, the plan state, what is proposed, and the chooser after.
     ghost picks: { Self → PlanState → Option Proposal → Self → Type 0 };
 
-    // The chooser before, and what it is once it chose, whatever came of that.
+    // How a choice changes it, whatever comes of the choice: the chooser before and after.
     ghost drawn: { Self → Self → Type 0 };
 
-    /// The next repair, or none where no conflict has a legal candidate. The plan state stays. Want of memory spoils the board.
+    /// Proposes the next repair, or nothing if no conflict has a legal candidate. The plan stays as it is. Want of memory spoils
+    /// the board.
     fn propose(&mut self, alloc: Global, board: &mut Board) -> Result<Option<Proposal>, AllocError>
         requires unspoiled { board.old.spoiled ≡ false }
         requires next_id { board.old.state.next_id ≤ 3999999000 }
@@ -28,8 +29,9 @@ pub trait Chooser: Drop {
         ensures err { OnErr result (board.new.spoiled ≡ true) }
         ensures drawn { drawn self.old self.new };
 
-    /// Makes the next repair, the one that `propose` gives, and tells it. Where no conflict has a legal candidate there is none, and
-    /// board and chooser stay as they are. As provided it looks for one first, asks `propose`, and makes what that proposes.
+    /// Makes the repair that `propose` would propose, and answers it. If no conflict has a legal candidate, board and chooser stay
+    /// as they are. The provided method first looks for a conflict with a legal candidate, asks `propose`, and makes what that
+    /// proposes.
     fn mend(&mut self, alloc: Global, board: &mut Board) -> Result<Option<Proposal>, AllocError>
         requires unspoiled { board.old.spoiled ≡ false }
         requires next_id { board.old.state.next_id ≤ 3999999000 }

@@ -96,10 +96,10 @@ pub(crate) fn tried(
     }
 }
 
-// How many moves there is room for at first: the starts of one activity, and one more.
+// How many moves the list has room for at first: those for an open goal, which are sixteen additions and a drop.
 const ROOM: usize = 17;
 
-/// The moves that are tried for a conflict, in order: 256 at most, each proper, none twice.
+/// The candidates for a conflict, in order: at most 256 moves, each of which makes sense, and none twice.
 #[tactic(auto, unfolding(pl_semantics::specs::Candidates::candidates_of))]
 pub fn candidates(alloc: Global, board: &Board, k: &Conflict) -> Result<Vec<RepairMove>, AllocError>
     requires { board.now.spoiled ≡ false }

@@ -96,7 +96,8 @@ fn contains(kept: &[RepairMove], mv: &RepairMove) -> bool
     }
 }
 
-// Whether it is among those that are kept. All of these are marked, so of one without a mark it is known at once.
+// Whether the move is among those that are kept. Each of these has a mark, so a move without one is known at once not to be among
+// them.
 #[tactic(auto, using(crate::proofs::Marking::unmarked))]
 fn is_kept(kept: &[RepairMove], marks: &[bool], mv: &RepairMove) -> bool
     requires count { length marks.now ≡ 1024 }
@@ -157,7 +158,8 @@ fn worth_after(state: &PlanState, last: &Option<Looked>, mv: &RepairMove) -> boo
     }
 }
 
-// Puts a move at the end, where it is one of the first 256 that make sense, change something and stand for the first time.
+// Puts a move at the end if it makes sense, changes something and is not among those that are kept, as long as these are fewer than
+// 256.
 fn add_if_new(
     mv: &RepairMove,
     worth: bool,

@@ -1,9 +1,10 @@
-/// What an activity of a kind does to a timeline to help against a conflict.
+/// What an added activity is to do to a timeline, to help against a conflict.
 #[derive(Clone, Copy, PartialEq, Eq)]
 pub(crate) enum Help {
     Raise,
     Lower,
-    /// Sets the state of this number.
+    /// Set the state of this number.
     SetState(u32),
+    /// Set a state, whichever it is.
     SetAny,
 }

@@ -1,4 +1,4 @@
-//! Help for a timeline: additions of activities that change it the other way.
+//! Help for a timeline: additions of activities that change it so that a conflict may go.
 ghost use Rattle.std.specs.Prelude.{◌≡◌, ℕ, List, ◌∷◌, ◌++◌, map, pos, IfOk, OnOk};
 ghost use Rattle.std.specs.Int.{int_min, int_max};
 ghost use Rattle.std.specs.List.{flat_map, list_any};
@@ -44,7 +44,7 @@ fn is_helper(timeline: u32, help: Help, kind: &Kind) -> bool
     false
 }
 
-// The starts that are tried for help up to a moment.
+// The starts, up to a moment, that are tried for an activity that helps.
 fn starts_until(alloc: Global, state: &PlanState, until: u32) -> Result<Vec<i64>, AllocError>
     requires { IsWhole state.now }
     ensures { IfOk result (λ all. all.items ≡ spread (floor_at state.now) (int_max (floor_at state.now) (int_min (pos until) (last_of state.now)))) }
@@ -53,7 +53,7 @@ fn starts_until(alloc: Global, state: &PlanState, until: u32) -> Result<Vec<i64>
     spread(alloc, low, low.max(to_last(state, i64::from(until))))
 }
 
-// Puts the number of a kind at the end, where it is one of the first four that help.
+// Puts the number of a kind at the end if the kind helps, as long as there are fewer than four.
 #[tactic(auto, using(crate::proofs::Keeping::helpers_full, crate::proofs::Keeping::helpers_past, crate::proofs::Keeping::helpers_more))]
 fn add_if_helper(
     timeline: u32,

@@ -29,8 +29,8 @@ fn least_of(state: &PlanState, kind: u32) -> u32
     }
 }
 
-// Where an added partner starts: at the point of the activity that has the link, or earlier by the least duration of the
-// partner's kind.
+// Where a partner of least duration starts if its point of the link lies at the moment `own`, at which the activity that has the
+// link has its own point.
 fn partner_start(own: u32, theirs: Point, least: u32) -> i64
     ensures { result ≡ partner_start (pos own) theirs least }
 {
@@ -40,7 +40,7 @@ fn partner_start(own: u32, theirs: Point, least: u32) -> i64
     }
 }
 
-// The least start of a partner.
+// The earliest start that is tried for a partner.
 fn earliest(state: &PlanState, link: &Link, start: i64) -> i64
     requires whole { IsWhole state.now }
     requires link { AreClose link.now }
@@ -52,7 +52,7 @@ fn earliest(state: &PlanState, link: &Link, start: i64) -> i64
     floor(state).max(behind(start, link.low))
 }
 
-// The greatest start of a partner.
+// The latest start that is tried for a partner.
 fn latest(state: &PlanState, link: &Link, start: i64) -> i64
     requires link { AreClose link.now }
     requires least { neg_ℤ (pos 5000000000) ≤ℤ start }
@@ -141,7 +141,7 @@ pub(crate) fn for_temporal(
     Ok(())
 }
 
-// A moment that lies so far behind another.
+// The moment that lies this distance after another.
 fn behind(moment: i64, distance: i64) -> i64
     requires least { neg_ℤ (pos 5000000000) ≤ℤ moment }
     requires most { moment ≤ℤ pos 5000000000 }

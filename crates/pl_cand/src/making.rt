@@ -20,7 +20,7 @@ pub fn make(alloc: Global, board: &mut Board, proposal: &Proposal) -> Result<(),
     pl_moves::make(alloc, board, &proposal.mv, &mut Steps::new(Quiet))
 }
 
-/// Makes what was proposed, if anything was, and tells it.
+/// Makes what was proposed, if anything was, and answers it.
 pub(crate) fn make_proposed(
     alloc: Global,
     board: &mut Board,

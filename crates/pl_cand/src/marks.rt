@@ -1,4 +1,5 @@
-//! Marks that tell of most moves that they were not kept, without a look at those that were.
+//! Marks of the moves that are kept. Of most moves that are not kept the marks show it, so that these need not be compared with
+//! each move that is kept.
 ghost use Rattle.std.specs.Prelude.{◌≡◌, ◌<◌, length};
 ghost use Rattle.pl_cand.specs.Marks.{place_by, place_of, is_marked, KeepsMarked};
 
@@ -7,7 +8,8 @@ use pl_plan::RepairMove;
 /// How many marks there are.
 pub(crate) const PLACES: usize = 1024;
 
-// Moves of one activity at other starts have other places, as long as these are near.
+// The place of a mark, by the number of a kind or an activity and by a start. Moves of one activity to different starts have
+// different places if these starts are less than 1024 apart.
 fn place_by(number: u32, start: u32) -> usize
     ensures value { result ≡ place_by number start }
     ensures within { result < 1024 }

@@ -1,4 +1,4 @@
-//! Whether a move is a candidate. Mostly this is told without leaving out the moves that stand twice.
+//! Whether a move is a candidate. Mostly this is answered without a list of the candidates.
 ghost use Rattle.std.specs.Prelude.{◌≡◌, [], take, filter, IfOk, false};
 ghost use Rattle.std.specs.List.{list_any};
 ghost use Rattle.pl_semantics.specs.Whole.{IsWhole};
@@ -23,7 +23,7 @@ fn is_among(mv: &RepairMove, moves: &[RepairMove]) -> bool
 }
 
 #[tactic(auto, using(crate::proofs::Among::all_short))]
-/// The first of the moves, as many as may be candidates.
+/// The first 256 of the moves: there are never more candidates.
 fn first(moves: &[RepairMove]) -> &[RepairMove]
     ensures { result.now ≡ take 256 moves.now }
 {
@@ -34,7 +34,8 @@ fn first(moves: &[RepairMove]) -> &[RepairMove]
     }
 }
 
-/// Whether the move is among those that are left of the moves that are tried.
+/// Whether the move is a candidate, given all moves that are tried. What is left out of these only brings a later move forward. So
+/// a move that makes sense, changes something and is one of the first 256 that are tried is a candidate.
 fn is_left(
     alloc: Global,
     state: &PlanState,
@@ -57,7 +58,7 @@ fn is_left(
     Ok(is_among(mv, left.as_slice()))
 }
 
-// Whether the move is a candidate for the conflict, told by a list of all that are tried.
+// Whether the move is a candidate for the conflict, answered by a list of all moves that are tried for it.
 #[tactic(auto, unfolding(pl_semantics::specs::Candidates::candidates_of))]
 fn is_listed(
     alloc: Global,
@@ -73,7 +74,7 @@ fn is_listed(
     is_left(alloc, state, all.as_slice(), mv)
 }
 
-// The same for a plan state, without a list where it can be told.
+// The same, answered without a list where that is possible.
 fn is_candidate_in(
     alloc: Global,
     state: &PlanState,

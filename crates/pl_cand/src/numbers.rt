@@ -1,4 +1,4 @@
-//! The numbers and the starts that are tried, as numbers from 0 on.
+//! The numbers and the starts that are tried, as numbers without a sign.
 ghost use Rattle.std.specs.Prelude.{◌≡◌, false, pos, map, All, IfOk};
 ghost use Rattle.pl_plan.specs.Activities.{IsLive};
 ghost use Rattle.pl_semantics.specs.Whole.{IsWhole};
@@ -9,7 +9,7 @@ use crate::{repairs, strides};
 use pl_board::Board;
 use std::alloc::{AllocError, Global};
 
-// The same numbers in the type of starts; none of them is below 0.
+// The same numbers in the type of starts. None of them is below 0.
 fn from_zero(alloc: Global, numbers: &[i64]) -> Result<Vec<u32>, AllocError>
     requires { All IsSmall numbers.now }
     ensures { IfOk result (λ all. map pos all.items ≡ numbers.now) }

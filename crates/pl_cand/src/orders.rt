@@ -1,4 +1,4 @@
-//! Moves for orders that are not met.
+//! Moves for an order between two slots, or between a slot and the parent, that is not met.
 ghost use Rattle.std.specs.Prelude.{◌≡◌, ◌++◌, ◌+ℤ◌, ◌-ℤ◌, pos, IfSome, OnOk, Some};
 ghost use Rattle.std.specs.Option.{option_copied};
 ghost use Rattle.pl_plan.specs.Activities.{activity_of};
@@ -17,7 +17,7 @@ use pl_plan::{Activity, RepairMove};
 use pl_semantics::PlanState;
 use std::alloc::{AllocError, Global};
 
-// Shifts an activity, if it is not the parent.
+// Appends the shift of the activity in this slot to a start. The parent, which has no slot, is not shifted.
 fn add_shift_one(
     state: &PlanState,
     slot: Option<u32>,
@@ -33,7 +33,7 @@ fn add_shift_one(
     }
 }
 
-// A start that is moved later by one distance and earlier by another.
+// The start that comes of moving one later by a distance (`by`) and then earlier by another (`back`).
 fn moved(start: u32, by: i64, back: i64) -> i64
     requires by { IsNear by }
     requires back { IsNear back }
@@ -58,8 +58,9 @@ fn add_moved(
     Ok(())
 }
 
-// Shifts the second to the least and to the greatest distance behind the first, and then the first to lie so far
-// before the second.
+// Appends the shifts of the second activity by which it lies the least and the greatest distance of the order after the first, and
+// then those of the first by which it lies that far before the second. `apart` is the distance from the first to the second at
+// present.
 fn add_order_shifts(
     state: &PlanState,
     order: &Order,
@@ -168,8 +169,8 @@ fn add_order_of(
     }
 }
 
-/// Appends shifts that meet the order of this index, the move by which the parent leaves its alternative, and the moves of the
-/// parent.
+/// Appends shifts by which the order of this index is met, the move by which the parent gives up its alternative, and the moves of
+/// the parent.
 pub(crate) fn for_linked(
     alloc: Global,
     state: &PlanState,

@@ -1,4 +1,4 @@
-//! What a plan state tells of an activity.
+//! What the lists of moves ask of a plan state: the limits of starts, and what an activity has by its kind.
 ghost use Rattle.std.specs.Prelude.{◌≡◌, ◌≤◌, All, IfSome, Some, length};
 ghost use Rattle.std.specs.Int.{int_max, int_min};
 ghost use Rattle.std.specs.Option.{option_copied};
@@ -27,7 +27,7 @@ pub(crate) fn floor(state: &PlanState) -> i64
     i64::from(state.floor())
 }
 
-/// The last start that may be.
+/// The last start that an activity may have.
 pub(crate) fn last(state: &PlanState) -> i64
     ensures value { result ≡ last_of state.now }
     ensures near { IsNear result }
@@ -35,7 +35,7 @@ pub(crate) fn last(state: &PlanState) -> i64
     i64::from(state.model.get().horizon) - 1
 }
 
-/// The moment, or the floor where it lies below.
+/// The moment, or the floor if the moment lies before it.
 pub(crate) fn from_floor(state: &PlanState, moment: i64) -> i64
     requires whole { IsWhole state.now }
     requires moment { IsNear moment }
@@ -45,7 +45,7 @@ pub(crate) fn from_floor(state: &PlanState, moment: i64) -> i64
     moment.max(floor(state))
 }
 
-/// The moment, or the last start where it lies above.
+/// The moment, or the last start if the moment lies after it.
 pub(crate) fn to_last(state: &PlanState, moment: i64) -> i64
     requires { IsNear moment }
     ensures value { result ≡ int_min moment (last_of state.now) }
@@ -54,7 +54,7 @@ pub(crate) fn to_last(state: &PlanState, moment: i64) -> i64
     moment.min(last(state))
 }
 
-/// The parameters of its kind, at most sixteen, whose bounds are near 0.
+/// The parameters of an activity's kind, at most sixteen. Their bounds are so near 0 that sums of them fit the type.
 pub(crate) fn checked_params<'s>(state: &'s PlanState, a: &Activity) -> &'s [Param]
     requires { IsWhole state.now }
     ensures value { result.now ≡ params_of (kind_of state.now.model a.now) }
@@ -73,7 +73,7 @@ fn reservations_of_kind<'s>(state: &'s PlanState, a: &Activity) -> &'s [Reservat
     }
 }
 
-/// What its kind asks of timelines.
+/// What an activity's kind asks of timelines.
 pub(crate) fn reservations_of<'s>(state: &'s PlanState, a: &Activity) -> &'s [Reservation]
     requires { IsWhole state.now }
     ensures value { result.now ≡ reservations_in (kind_of state.now.model a.now) }
@@ -91,7 +91,7 @@ fn links_of_kind<'s>(state: &'s PlanState, a: &Activity) -> &'s [Link]
     }
 }
 
-/// The temporal links of its kind.
+/// The temporal links of an activity's kind.
 pub(crate) fn links_of<'s>(state: &'s PlanState, a: &Activity) -> &'s [Link]
     requires { IsWhole state.now }
     ensures value { result.now ≡ links_of state.now.model (placed_of state.now a.now) }
@@ -100,7 +100,7 @@ pub(crate) fn links_of<'s>(state: &'s PlanState, a: &Activity) -> &'s [Link]
     links_of_kind(state, a)
 }
 
-/// The alternatives of its kind, at most eight.
+/// The alternatives of an activity's kind, at most eight.
 pub(crate) fn checked_alternatives<'s>(state: &'s PlanState, a: &Activity) -> &'s [Alternative]
     requires { IsWhole state.now }
     ensures value { result.now ≡ alternatives_at state.now a.now }
@@ -109,7 +109,7 @@ pub(crate) fn checked_alternatives<'s>(state: &'s PlanState, a: &Activity) -> &'
     state.alternatives_of(a)
 }
 
-/// The order of this index of the chosen alternative, whose distances are near 0.
+/// The order of this index of an activity's chosen alternative. Its distances are so near 0 that sums of them fit the type.
 pub(crate) fn checked_order<'s>(state: &'s PlanState, a: &Activity, index: u32) -> Option<&'s Order>
     requires { IsWhole state.now }
     ensures value { option_copied result ≡ order_at state.now a.now index }
@@ -126,7 +126,7 @@ pub(crate) fn is_committed(state: &PlanState, a: &Activity) -> bool
     a.start < state.committed
 }
 
-/// The end of a live activity, where it is firm.
+/// The end of a live activity, if it is firm.
 pub(crate) fn end_of(state: &PlanState, a: &Activity) -> Option<u32>
     requires whole { IsWhole state.now }
     requires live { activity_of a.now.id state.now.plan.activities ≡ Some a.now }
@@ -135,7 +135,7 @@ pub(crate) fn end_of(state: &PlanState, a: &Activity) -> Option<u32>
     state.plan.end(state.model.get(), a.id)
 }
 
-/// The moment of a point of a live activity, where it is firm.
+/// The moment at which a live activity has its start or its end, if it is firm.
 pub(crate) fn moment_of(state: &PlanState, a: &Activity, point: Point) -> Option<u32>
     requires whole { IsWhole state.now }
     requires live { activity_of a.now.id state.now.plan.activities ≡ Some a.now }

@@ -73,7 +73,7 @@ fn add_shifts_of(
     Ok(())
 }
 
-/// The root above an activity, if it is not one itself.
+/// The root of an activity's tree, if the activity is not the root itself.
 pub(crate) fn above_it<'s>(state: &'s PlanState, a: &Activity) -> Option<&'s Activity>
     requires whole { IsWhole state.now }
     requires live { activity_of a.now.id state.now.plan.activities ≡ Some a.now }
@@ -101,7 +101,7 @@ fn add_shifts_above(
     }
 }
 
-/// Appends the deletion of the root above a live activity.
+/// Appends the deletion of the root of a live activity's tree.
 pub(crate) fn add_deletion(
     state: &PlanState,
     a: &Activity,

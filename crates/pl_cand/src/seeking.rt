@@ -1,4 +1,4 @@
-//! Whether a move is one of those that are tried for the users of a timeline, told without listing these.
+//! Whether a move is one of those that are tried for the users of a timeline. It is answered without listing these moves.
 ghost use Rattle.std.specs.Prelude.{◌≡◌, ◌≤◌, ◌++◌, ◌||◌, false, IfOk, List, Some, length};
 ghost use Rattle.std.specs.List.{flat_map, list_any};
 ghost use Rattle.pl_plan.specs.Activities.{activity_of};
@@ -19,7 +19,7 @@ use pl_plan::{Activity, RepairMove};
 use pl_semantics::PlanState;
 use std::alloc::{AllocError, Global};
 
-/// How many moves stand before those of the users, at most: 64 that help, and two shifts of each user away from a span.
+/// How many moves stand before those of the users, at most: 64 additions that help, and two shifts of each user out of the span.
 const BEFORE: usize = 80;
 
 /// How many moves an activity has at most: its shifts, those of its root, and the deletion of the root.
@@ -28,7 +28,7 @@ const MOVES: usize = 35;
 /// How many moves a root has at most.
 const MOVES_OF_A_ROOT: usize = 18;
 
-// What is told of a move that stands among so many.
+// What is known of a move that stands among the first so many that are tried.
 fn told_within(most: usize) -> Told
     ensures { result ≡ told_within most }
 {
@@ -50,7 +50,7 @@ fn most_moves(a: &Activity) -> usize
     }
 }
 
-// Whether a move shifts a user away from the span, where there is one.
+// Whether a move shifts a user out of the span. Only users of a capacity are shifted so.
 fn is_away(state: &PlanState, role: Role, user: &Activity, mv: &RepairMove) -> bool
     requires whole { IsWhole state.now }
     requires live { activity_of user.now.id state.now.plan.activities ≡ Some user.now }
@@ -72,7 +72,8 @@ fn is_tried(state: &PlanState, role: Role, user: &Activity, mv: &RepairMove) -> 
     is_away(state, role, user, mv) || is_move_of(state, user, mv)
 }
 
-/// What is told of a move by those that are tried for the first eight users of a timeline, behind at most 64 others.
+/// What is known of a move among those that are tried for the first eight users of a timeline, after at most 64 others, none of
+/// which is this move.
 pub(crate) fn seek(
     alloc: Global,
     state: &PlanState,

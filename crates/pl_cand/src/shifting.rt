@@ -1,4 +1,4 @@
-//! Whether a move is one of those of an activity or of a goal, told without listing these.
+//! Whether a move is one of those that are tried for an activity or for a goal. It is answered without listing these moves.
 ghost use Rattle.std.specs.Prelude.{◌≡◌, pos, Some};
 ghost use Rattle.std.specs.Int.{int_max, int_min};
 ghost use Rattle.std.specs.List.{list_any};
@@ -54,7 +54,7 @@ fn is_shift_of(state: &PlanState, a: &Activity, id: u32, start: u32) -> bool
     id == a.id && may_start(state, start) && is_place(state, a, i64::from(start))
 }
 
-// Whether the shift of an activity to a start is one of those of the root above another.
+// Whether the shift of the activity of this id to this start is one of those of the root above `a`, if `a` is no root itself.
 #[tactic(auto, using(crate::proofs::Starting::shift_stands))]
 fn is_shift_above(state: &PlanState, a: &Activity, id: u32, start: u32) -> bool
     requires whole { IsWhole state.now }

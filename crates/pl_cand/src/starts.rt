@@ -1,4 +1,4 @@
-//! Shifts and new activities, which start within the horizon.
+//! Shifts and additions of activities, with starts at which an activity may start.
 ghost use Rattle.std.specs.Prelude.{◌≡◌, ℕ, ◌++◌, OnOk};
 ghost use Rattle.std.specs.List.{flat_map};
 ghost use Rattle.std.specs.Option.{option_map, option_to_list};
@@ -11,7 +11,7 @@ use pl_plan::RepairMove;
 use pl_semantics::PlanState;
 use std::alloc::AllocError;
 
-// The moment, if an activity may start then: from 1 to the last moment before the horizon.
+// The moment, if an activity may start then, which is from 1 on and before the horizon.
 fn start_in(state: &PlanState, start: i64) -> Option<u32>
     ensures { (make : ℕ → RepairMove) → option_to_list (option_map make result) ≡ starting state.now make start }
 {
@@ -84,14 +84,14 @@ pub(crate) fn add_news(
     Ok(())
 }
 
-/// Whether an activity may start then: from 1 to the last moment before the horizon.
+/// Whether an activity may start then, which is from 1 on and before the horizon.
 pub(crate) fn may_start(state: &PlanState, start: u32) -> bool
     ensures { result ≡ may_start state.now start }
 {
     1 <= start && start < state.model.get().horizon
 }
 
-/// Whether a move is the shift of an activity to a start, and it may start then.
+/// Whether a move is the shift of this activity to this start, and an activity may start then.
 pub(crate) fn is_shift_to(state: &PlanState, a: u32, to: i64, mv: &RepairMove) -> bool
     ensures { result ≡ is_shift_to state.now a to mv.now }
 {

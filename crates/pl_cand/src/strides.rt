@@ -1,4 +1,4 @@
-//! The numbers between two that are tried.
+//! Which of the numbers between two are tried: at most sixteen, spread evenly.
 ghost use Rattle.std.specs.Prelude.{◌≡◌, ◌≤◌, ◌-ℤ◌, IfOk};
 ghost use Rattle.std.specs.List.{list_any};
 ghost use Rattle.std.specs.Ordering.{int_eq};
@@ -11,7 +11,7 @@ use std::alloc::{AllocError, Global};
 /// The most numbers that are tried.
 const MOST: u32 = 16;
 
-// The distance between two numbers that are tried, so that there are at most sixteen.
+// The distance between one number that is tried and the next, given how far the high number lies above the low one.
 fn stride(width: u64) -> u64
     requires { width ≤ 2000000000000 }
     ensures value { result ≡ stride width }
@@ -20,7 +20,7 @@ fn stride(width: u64) -> u64
     ((width + 14) / 15).max(1)
 }
 
-// The numbers from a low one up to a high one, so many at most.
+// The numbers from a low one up to a high one, in steps of this size, and at most so many.
 fn steps(alloc: Global, low: i64, high: i64, step: u64, most: u32) -> Result<Vec<i64>, AllocError>
     requires low { IsNear low }
     requires high { IsNear high }
@@ -60,7 +60,7 @@ pub(crate) fn spread(alloc: Global, low: i64, high: i64) -> Result<Vec<i64>, All
     steps(alloc, low, high, stride(width(low, high)), MOST)
 }
 
-// Whether a number is one of those from a low one up to a high one, so many at most.
+// Whether a number is one of those from a low one up to a high one, in steps of this size, and at most so many.
 fn is_among_steps(low: i64, high: i64, step: u64, most: u32, number: i64) -> bool
     requires low { IsNear low }
     requires high { IsNear high }

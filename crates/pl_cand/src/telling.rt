@@ -1,4 +1,4 @@
-//! Whether a move is tried for a conflict, told without listing all that is tried.
+//! Whether a move is tried for a conflict, as far as this is known without a list of all moves that are tried.
 ghost use Rattle.std.specs.Prelude.{◌≡◌, ◌≤◌, ◌++◌, List, IfOk, false, length, Some};
 ghost use Rattle.std.specs.List.{flat_map, list_any};
 ghost use Rattle.pl_plan.specs.Activities.{activity_of};
@@ -23,7 +23,7 @@ use pl_plan::{Activity, RepairMove};
 use pl_semantics::PlanState;
 use std::alloc::{AllocError, Global};
 
-// What is told by whether a move is one of few.
+// What is known of a move, given whether it is one of the moves that are tried, where these are at most 256.
 fn told_of_few(is: bool) -> Told
     ensures { (m : RepairMove) (tried : List RepairMove) → length tried ≤ 256 → list_any (same_move m) tried ≡ is → Tells tried m result }
 {
@@ -92,8 +92,8 @@ fn is_addition(mv: &RepairMove) -> bool
     }
 }
 
-// What is told of a move by the moves of those that change a level in this way before the end of a span. An addition may
-// be one of the moves that help, of which nothing is told.
+// What is known of a move for a conflict of a level, by the moves of the activities that change the level in this way before the
+// end of the span. Of an addition nothing is known, since it may be one of the additions that help.
 fn told_of_level(
     alloc: Global,
     state: &PlanState,
@@ -150,7 +150,7 @@ fn told_high(
     Ok(told)
 }
 
-/// What is told of a move without listing all that is tried for the conflict.
+/// What is known of a move without a list of all moves that are tried for the conflict.
 pub(crate) fn told(
     alloc: Global,
     state: &PlanState,

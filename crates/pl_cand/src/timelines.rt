@@ -20,7 +20,7 @@ use pl_plan::{Activity, RepairMove};
 use pl_semantics::PlanState;
 use std::alloc::{AllocError, Global};
 
-// Appends the shifts of a user to a start behind the span, and to an end before it.
+// Appends the shift by which a user starts where the span ends, and the one by which it ends where the span starts.
 fn add_around(
     state: &PlanState,
     id: u32,
@@ -87,7 +87,8 @@ fn add_all_moves(
     Ok(())
 }
 
-/// Appends shifts of the first eight users behind the span and before it, and then the moves of each.
+/// Appends for each of the first eight users the shifts by which it starts where the span ends or ends where the span starts, and
+/// then the moves of each.
 #[tactic(auto, using(crate::proofs::Playing::moves_by_ids, crate::proofs::Playing::around_by_ids))]
 pub(crate) fn for_over(
     alloc: Global,
@@ -106,7 +107,8 @@ pub(crate) fn for_over(
     Ok(())
 }
 
-/// Appends help by kinds that raise the level, and the moves of the first eight that lower it before the span's end.
+/// Appends additions of activities that raise the level, and the moves of the first eight activities that lower it before the
+/// span's end.
 #[tactic(auto, using(crate::proofs::Playing::moves_by_ids, crate::proofs::Playing::around_by_ids))]
 pub(crate) fn for_low(
     alloc: Global,
@@ -125,7 +127,8 @@ pub(crate) fn for_low(
     Ok(())
 }
 
-/// Appends help by kinds that lower the level, and the moves of the first eight that raise it before the span's end.
+/// Appends additions of activities that lower the level, and the moves of the first eight activities that raise it before the
+/// span's end.
 #[tactic(auto, using(crate::proofs::Playing::moves_by_ids, crate::proofs::Playing::around_by_ids))]
 pub(crate) fn for_high(
     alloc: Global,
@@ -153,7 +156,7 @@ fn reservation_at<'s>(state: &'s PlanState, a: &Activity, index: u32) -> Option<
     }
 }
 
-// Appends help by kinds that set the state that is needed.
+// Appends additions of activities that set the state that the reservation needs.
 fn add_help_must(
     alloc: Global,
     state: &PlanState,
@@ -173,7 +176,7 @@ fn add_help_must(
     }
 }
 
-// Appends help by kinds that set any state of the timeline.
+// Appends additions of activities that set a state of the reservation's timeline, whichever it is.
 fn add_help_step(
     alloc: Global,
     state: &PlanState,
@@ -198,7 +201,7 @@ fn add_help_step(
     }
 }
 
-/// Appends help for the state that a reservation needs, up to a moment, and the moves of the activity.
+/// Appends additions, up to a moment, of activities that set the state that a reservation needs, and the moves of the activity.
 pub(crate) fn for_must(
     alloc: Global,
     state: &PlanState,
@@ -216,7 +219,8 @@ pub(crate) fn for_must(
     Ok(())
 }
 
-/// Appends help for the timeline that a reservation sets, up to a moment, and the moves of the activity.
+/// Appends additions, up to a moment, of activities that set a state of the timeline that a reservation sets, and the moves of the
+/// activity.
 pub(crate) fn for_bad_step(
     alloc: Global,
     state: &PlanState,

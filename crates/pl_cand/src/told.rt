@@ -1,10 +1,10 @@
-/// What is told of a move without listing all that is tried for a conflict.
+/// What is known of a move without a list of all moves that are tried for a conflict.
 #[derive(Clone, Copy, PartialEq, Eq)]
 pub(crate) enum Told {
     /// It is one of the first 256 moves that are tried.
     Early,
     /// It is not tried.
     Untried,
-    /// Nothing is told.
+    /// It is not known whether it is tried.
     Unknown,
 }

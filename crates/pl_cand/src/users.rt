@@ -1,4 +1,4 @@
-//! The activities that are shifted away from a timeline.
+//! The users of a timeline that has a conflict: the activities that do to it what a repair is to change.
 ghost use Rattle.std.specs.Prelude.{◌≡◌, ◌<◌, ◌≤ℤ◌, pos, List, ◌∷◌, IfOk, IfSome, OnOk, Some, All, length, map};
 ghost use Rattle.std.specs.List.{list_any};
 ghost use Rattle.pl_model.specs.Values.{NamesBelow};
@@ -19,7 +19,7 @@ use pl_plan::Activity;
 use pl_semantics::PlanState;
 use std::alloc::{AllocError, Global};
 
-/// How many activities are shifted away, at most.
+/// For how many users moves are tried, at most.
 pub(crate) const USERS: usize = 8;
 
 fn amount_in(amount: &Expr, values: &[Option<i64>]) -> i64
@@ -72,7 +72,7 @@ fn any_uses(
     false
 }
 
-// Whether the reservation may take from the timeline before a moment, whatever its amount and the end of the activity.
+// Whether the reservation may take from the timeline before moment `b`, if its amount and the end of the activity allow it.
 fn may_take(timeline: u32, b: u32, start: u32, reservation: &Reservation) -> bool
     ensures { result ≡ may_take timeline b start reservation.now }
 {
@@ -93,7 +93,8 @@ fn any_may_take(timeline: u32, b: u32, start: u32, reservations: &[Reservation])
     false
 }
 
-// Whether the activity takes from the timeline within a span. Its values are worked out only if its kind takes from the timeline.
+// Whether the activity takes from the timeline within a span. Its values are worked out only if a reservation of its kind may take
+// from the timeline then.
 #[tactic(auto, unfolding(pl_semantics::specs::Demands::demands_at))]
 fn takes_in(
     alloc: Global,
@@ -126,7 +127,7 @@ fn takes_in(
     }
 }
 
-// The moment of a level's base: 0 also before any telemetry, as no effect lies at 0.
+// The moment of a level's base. It is 0 as well before any telemetry, since no effect lies at 0.
 fn since(state: &PlanState, timeline: u32) -> u32
     requires whole { IsWhole state.now }
     requires timeline { HasBase state.now timeline }
@@ -142,7 +143,7 @@ fn moment_of_base(base: (i64, i64)) -> u32
     if base.0 < 0 { 0 } else { base.0 as u32 }
 }
 
-// Whether the point lies after the base's moment, and before the horizon and another moment.
+// Whether the activity is firm, and this point of it lies after the base's moment, before the horizon and before moment `b`.
 fn point_counts(state: &PlanState, timeline: u32, b: u32, a: &Activity, point: Point) -> bool
     requires whole { IsWhole state.now }
     requires live { activity_of a.now.id state.now.plan.activities ≡ Some a.now }
@@ -226,7 +227,7 @@ fn plays(
     }
 }
 
-/// Whether the activity is not committed and plays the role. Each activity of a plan is asked, so no call is made for it.
+/// Whether the activity is not committed and plays the role. It is inlined, since each activity of a plan is asked.
 #[inline(always)]
 pub(crate) fn is_user(
     alloc: Global,
@@ -245,7 +246,7 @@ pub(crate) fn is_user(
     plays(alloc, state, timeline, role, a)
 }
 
-// Puts the id of an activity at the end, where it plays the role.
+// Puts the id of an activity at the end if it is not committed and plays the role.
 #[tactic(auto, using(crate::proofs::Keeping::users_past, crate::proofs::Keeping::users_more))]
 fn add_if_user(
     alloc: Global,

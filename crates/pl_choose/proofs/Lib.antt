@@ -5,5 +5,5 @@ pub mod Finding
 pub mod Proposing
 pub mod Between
 pub mod Instead
-pub mod Turning
+pub mod InTurn
 pub mod Promise

@@ -1,4 +1,4 @@
--- What comes of the aim.
+-- What came of trying the aim.
 use Rattle.std.specs.Prelude.{◌≡◌, ◌≤◌, List, drop, length}
 use Rattle.pl_plan.specs.declared.repair.RepairMove.{RepairMove}
 use Rattle.pl_semantics.specs.Moves.{applied}
@@ -11,8 +11,9 @@ use Rattle.pl_choose.specs.declared.purpose.Purpose.{Purpose}
 use Rattle.pl_choose.specs.declared.purpose.Purpose.TheVariants.{Mend}
 use Rattle.pl_choose.specs.Tried.{best_of}
 
--- What a move is looked for, the best so far, the hopes, the board before, what came of the aim, and the board then. The aim is the
--- best of all and stays made, or the best of it and those before it leads with those behind it to the best of all.
+-- Given: what a move is chosen for, the best so far, the moves that may be better, the board before, what came of the aim, and the
+-- board then. Either the aim is the best of all and stays made, or some moves were tried from the front, and the best of these and
+-- the rest is the best of all.
 abbrev pub IsAimed : Purpose → Best → List RepairMove → Standing → Aimed → Standing → Type 0
 IsAimed why b moves before (Made m) now = (why ≡ Mend) × (m ≡ (best_of (left_after before.state) b moves).mv) × (now ≡ after (applied before.state m))
 IsAimed why b moves before (Passed t) now = (best_of (left_after before.state) t.best (drop t.count moves) ≡ best_of (left_after before.state) b moves) × (t.count ≤ length moves) × (now ≡ before)

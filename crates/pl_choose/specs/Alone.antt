@@ -7,12 +7,12 @@ use Rattle.pl_board.specs.Boards.{Standing, after}
 use Rattle.pl_choose.specs.declared.alone.Alone.{Alone}
 use Rattle.pl_choose.specs.declared.alone.Alone.TheVariants.{Made, Undone}
 
--- nothing is few enough where there is no such number
+-- no more conflicts are left than are enough; if no number is given, none are few enough
 abbrev pub AreEnough : Option ℕ → ℕ → Type 0
 AreEnough None left = ⊥
 AreEnough (Some most) left = left ≤ most
 
--- the move, how many conflicts are enough, the board before, what came of it, and the board then
+-- given the move, how many conflicts are enough, the board before, what came of the move, and the board then
 abbrev pub IsTriedAlone : RepairMove → Option ℕ → Standing → Alone → Standing → Type 0
 IsTriedAlone m enough before Made now = AreEnough enough (left_after before.state m) × (now ≡ after (applied before.state m))
 IsTriedAlone m enough before (Undone left) now = (left ≡ left_after before.state m) × (left < 2 ^ 63) × (now ≡ before)

@@ -9,12 +9,12 @@ use Rattle.pl_semantics.specs.Legal.{has_repair, legal_for}
 use Rattle.pl_moves.specs.Runs.{CanBeMade}
 use Rattle.pl_choose.specs.declared.repairs.Repairs.{Repairs}
 
--- the legal candidates of a conflict, or none where it has none
+-- the conflict with its legal candidates, or none if it has none
 abbrev pub AreFor : PlanState → Conflict → Option Repairs → Type 0
 AreFor s k None = has_repair s k ≡ false
 AreFor s k (Some r) = (has_repair s k ≡ true) × (r.conflict ≡ k) × (r.moves.items ≡ legal_for s k)
 
--- the legal candidates of the first conflict that has one, or none where no conflict has one
+-- the first conflict that has a legal candidate, with its legal candidates, or none if no conflict has one
 abbrev pub AreFirst : PlanState → Option Repairs → Type 0
 AreFirst s None = find (has_repair s) (conflicts_of s) ≡ None
 AreFirst s (Some r) = (find (has_repair s) (conflicts_of s) ≡ Some r.conflict) × (r.moves.items ≡ legal_for s r.conflict)
@@ -28,11 +28,11 @@ IsAllowed = CanBeMade
 
 -- ---- the lowest of some
 
--- the lower of two, the first where they are level
+-- the lower of two by this number, the first if both have the same
 abbrev pub lower : {X : Type 0} → (X → ℕ) → X → X → X
 lower f x y = cond (nat_lt (f y) (f x)) y x
 
--- the lower of each two in turn
+-- the lowest of one and some others, the first among equals
 abbrev pub lowest : {X : Type 0} → (X → ℕ) → X → List X → X
 lowest f x [] = x
 lowest f x (y ∷ more) = lowest f (lower f x y) more

@@ -8,5 +8,5 @@ pub mod Started
 pub mod Aimed
 pub mod Stretches
 pub mod Stages
-pub mod Turns
+pub mod InTurn
 pub mod Promising

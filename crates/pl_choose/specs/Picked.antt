@@ -1,4 +1,4 @@
--- What is chosen, and the board behind it.
+-- What is chosen, and the board then.
 use Rattle.std.specs.Prelude.{◌≡◌, ℕ, List, Option, Some, None}
 use Rattle.pl_plan.specs.declared.repair.RepairMove.{RepairMove}
 use Rattle.pl_semantics.specs.Moves.{applied}
@@ -11,13 +11,13 @@ use Rattle.pl_choose.specs.declared.purpose.Purpose.{Purpose}
 use Rattle.pl_choose.specs.declared.purpose.Purpose.TheVariants.{Propose, Mend}
 use Rattle.pl_choose.specs.Picks.{fewest}
 
--- how few conflicts are enough for a move to stay made: none are where it is only to be proposed
+-- how many conflicts a move may leave and stay made: if it is only to be proposed, it does not stay made, however few it leaves
 abbrev pub enough_for : Purpose → Option ℕ → Option ℕ
 enough_for Propose most = None
 enough_for Mend most = most
 
--- What a move is looked for, what the move is to be, the board before, what is chosen, and the board then. It stays made only where
--- one is looked for to be made.
+-- Given: what a move is chosen for, what holds of the chosen move, the board before, the choice, and the board then. A move stays
+-- made only if it is chosen to be made.
 abbrev pub IsPicked : Purpose → (RepairMove → Type 0) → Standing → Picked → Standing → Type 0
 IsPicked why P before (Made m) now = (why ≡ Mend) × P m × (now ≡ after (applied before.state m))
 IsPicked why P before (Found m) now = P m × (now ≡ before)
@@ -27,7 +27,7 @@ abbrev pub IsFewest : Purpose → List RepairMove → Standing → Option Picked
 IsFewest why moves before None now = (fewest before.state moves ≡ None) × (now ≡ before)
 IsFewest why moves before (Some p) now = IsPicked why (λ m. fewest before.state moves ≡ Some m) before p now
 
--- the board behind a choice: where it is to be made it stands for what the move makes of the plan state
+-- The board after a choice: if the move is chosen to be made, the board has the plan state that the move makes, else it is as before.
 abbrev pub behind : Purpose → Option Proposal → Standing → Standing
 behind Propose p before = before
 behind Mend p before = mended p before

@@ -36,14 +36,15 @@ least_pick s = option_and_then (fewest_for s) (find (has_repair s) (conflicts_of
 
 -- ---- by chance
 
--- the one of some that a word picks
+-- the item that a random word picks
 abbrev pub picked_by : {T : Type 0} → ℕ → List T → Option T
 picked_by word all = slice_get all (word % length all)
 
 abbrev pub picked_for : PlanState → ℕ → Conflict → Option Proposal
 picked_for s word k = option_map (proposal k) (picked_by word (legal_for s k))
 
--- of the conflicts that have a legal candidate the one that a word picks, with that one of its legal candidates that another picks
+-- of the conflicts that have a legal candidate the one that a random word picks, with that one of its legal candidates that another
+-- word picks
 unfoldable pub random_pick : PlanState → ℕ → ℕ → Option Proposal
 random_pick s word other = option_and_then (picked_for s other) (picked_by word (repairable s))
 
@@ -57,11 +58,11 @@ word_of g = (pcg32 g).0
 unfoldable pub after_word : Lcg → Lcg
 after_word g = (pcg32 g).1
 
--- one in eight words, those that 8 divides, asks for a choice by chance
+-- One in eight words asks for a choice by chance: those that 8 divides.
 unfoldable pub is_random : ℕ → Bool
 is_random word = (word % 8) == 0
 
--- by chance with the two words that follow, or as the least chooser does
+-- by chance with the two words that follow, or as `Least` does
 unfoldable pub draw_of : Lcg → Draw
 draw_of g = if is_random (word_of g) then AtRandom (word_of (after_word g)) (word_of (after_word (after_word g))) else AsLeast
 

@@ -13,11 +13,11 @@ pub record BeginsWith {X : Type 0} (x : X) (xs : List X) : Type 0 where
   pub more : List X
   pub is : xs ≡ x ∷ more
 
--- as many conflicts are known to be left by each of these moves that makes sense
+-- Each of these moves that makes sense has at least as high a bound as this one.
 abbrev pub LeaveAsMany : PlanState → RepairMove → List RepairMove → Type 0
 LeaveAsMany s m ms = All (λ other. is_proper s other ≡ true → least_known s m ≤ least_known s other) ms
 
--- It is the first of some moves, and of none of them fewer conflicts are known to be left.
+-- It is the first of these moves, and none of them that makes sense has a lower bound.
 pub record IsForemost (s : PlanState) (m : RepairMove) (ms : List RepairMove) : Type 0 where
   pub first : BeginsWith m ms
   pub least : LeaveAsMany s m ms

@@ -1,5 +1,5 @@
-//! The aim is the one of some moves that may leave the fewest conflicts, by what is known of them. It is tried before the others, so
-//! that no move is tried that is known to leave more.
+//! The aim is that one of some moves that by its bound may leave the fewest conflicts. It is tried before the others. Once it is
+//! counted how many conflicts it leaves, no move is tried whose bound is higher than this.
 ghost use Rattle.std.specs.Prelude.{◌≡◌, ◌≤◌, ◌<◌, ◌+◌, ◌^◌, true, false, All, IfOk, IfSome, OnErr, take, drop, length};
 ghost use Rattle.pl_semantics.specs.Legal.{left_after};
 ghost use Rattle.pl_bounds.specs.Bounds.{AreLeast};
@@ -19,16 +19,17 @@ use pl_board::Board;
 use pl_plan::RepairMove;
 use std::alloc::{AllocError, Global};
 
-/// What comes of the aim.
+/// What came of trying the aim.
 #[derive(Clone, Copy)]
 pub(crate) enum Aimed {
     /// The aim is the best of all, and stays made.
     Made(RepairMove),
-    /// The aim and the moves before it are tried.
+    /// The aim and the moves before it were tried, and none of them stays made.
     Passed(Tried),
 }
 
-// What the moves before the aim are tried against: one of them is better than the aim if it leaves no more conflicts.
+// What the moves before the aim have to be better than. Of equals the first is chosen, so where the aim is the best so far, a move
+// before it is better if it leaves no more conflicts than the aim.
 fn above(best: Best, aim: &RepairMove, left: usize) -> Best
     requires { left < 2 ^ 63 }
     ensures { result ≡ above best aim.now left }
@@ -42,8 +43,9 @@ fn above(best: Best, aim: &RepairMove, left: usize) -> Best
     best
 }
 
-// How few conflicts are enough for the move at a place to be the best: fewer than the best so far leaves and than those before it
-// leave at least, and no more than those behind it leave at least.
+// If the move at this place leaves no more conflicts than the result, it is the best of all. For the result is lower than what the
+// best so far leaves and than the bound of each move before it, and no higher than the bound of each move after it. None if there
+// is no such number.
 fn enough_at(best: Best, bounds: &[u32], at: usize) -> Option<u32>
     requires { at < length bounds.now }
     ensures best { IfSome result (λ n. n < best.left) }
@@ -58,7 +60,8 @@ fn enough_at(best: Best, bounds: &[u32], at: usize) -> Option<u32>
     }
 }
 
-// Tries the aim and then the moves before it, unless the aim is known to be the best of all.
+// Tries the aim. It stays made if it is then known to be the best of all. Otherwise it is taken back, and the moves before it are
+// tried.
 fn try_aim(
     alloc: Global,
     board: &mut Board,
@@ -92,8 +95,8 @@ fn try_aim(
     }
 }
 
-/// The best of one move and some others in turn, given for each of the others a number of conflicts that it leaves at least. So many
-/// aims are tried first.
+/// The best of all: of the best so far and of these moves, of each of which the bound is given. `aims` is how many aims are tried
+/// before the moves that are then left are tried in their order.
 pub(crate) fn pick_by_aims(
     alloc: Global,
     board: &mut Board,

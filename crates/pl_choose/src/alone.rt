@@ -19,7 +19,8 @@ pub(crate) enum Alone {
     Undone { left: usize },
 }
 
-/// Tries a move. If it leaves no more conflicts than are enough, it stays made. Want of memory spoils the board.
+/// Tries a move. It stays made if it leaves no more conflicts than `enough`, and is undone if it leaves more or if no number is
+/// given. Want of memory spoils the board.
 pub(crate) fn try_alone(
     alloc: Global,
     board: &mut Board,

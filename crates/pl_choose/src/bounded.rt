@@ -1,4 +1,4 @@
-//! Moves, with a number of conflicts that each leaves at least.
+//! Moves with their bounds: the bound of a move is a number of conflicts that it leaves at least.
 ghost use Rattle.std.specs.Prelude.{◌≡◌, ◌<◌, ◌≤◌, false, true, All, IfOk, OnOk, OnErr, length};
 ghost use Rattle.pl_semantics.specs.Legal.{left_after};
 ghost use Rattle.pl_bounds.specs.Bounds.{AreLeast};
@@ -13,7 +13,7 @@ use pl_bounds::least_of_each;
 use pl_plan::RepairMove;
 use std::alloc::{AllocError, Global};
 
-/// For each of these moves a number of conflicts that it leaves at least. Want of memory spoils the board.
+/// The bound of each of these moves. Want of memory spoils the board.
 pub(crate) fn bounds_of(
     alloc: Global,
     board: &mut Board,
@@ -35,7 +35,7 @@ pub(crate) fn bounds_of(
     }
 }
 
-/// The place of the first of the lowest.
+/// The first place at which the lowest of these numbers stands.
 pub(crate) fn lowest_place(bounds: &[u32]) -> usize
     requires { 0 < length bounds.now }
     ensures { result < length bounds.now }
@@ -49,7 +49,7 @@ pub(crate) fn lowest_place(bounds: &[u32]) -> usize
     lowest
 }
 
-/// The lowest of a number and some others.
+/// The lowest of `most` and these numbers.
 pub(crate) fn lowest_of(most: u32, bounds: &[u32]) -> u32
     ensures most { result ≤ most }
     ensures least { All (λ n. result ≤ n) bounds.now }
@@ -61,8 +61,8 @@ pub(crate) fn lowest_of(most: u32, bounds: &[u32]) -> u32
     lowest
 }
 
-/// The best of one move and some others in turn, given for each of the others a number of conflicts that it leaves at least. A move
-/// that is known to be no better is not tried.
+/// The best of a first move and of these moves, of each of which the bound is given. They are tried in their order; one that its
+/// bound shows to be no better than the best so far is not tried.
 pub(crate) fn best_by_bounds(
     alloc: Global,
     board: &mut Board,

@@ -1,8 +1,8 @@
-/// How a chooser by chance goes about one choice.
+/// How `Seeded` makes one choice.
 #[derive(Clone, Copy, PartialEq, Eq)]
 pub(crate) enum Draw {
-    /// It chooses as the least chooser does.
+    /// As `Least` does.
     AsLeast,
-    /// One word picks the conflict, and the other one its repair.
+    /// By chance: one random word picks the conflict, and the other one its repair.
     AtRandom { conflict: u32, repair: u32 },
 }

@@ -1,4 +1,5 @@
-//! The move that leaves the fewest conflicts. It is looked for by trying moves on the board, so one that is the best may stay made.
+//! The move that leaves the fewest conflicts. To find it, moves are made on the board and undone. The last one made may stay made
+//! if it is the best.
 ghost use Rattle.std.specs.Prelude.{◌≡◌, ◌<◌, ◌≤◌, ◌∷◌, true, false, All, map, Some, IfOk, OnErr};
 ghost use Rattle.pl_semantics.specs.Legal.{left_after};
 ghost use Rattle.pl_moves.specs.Changes.{IsOfActivities};
@@ -12,28 +13,28 @@ use crate::aiming::pick_by_aims;
 use crate::alone::{Alone, try_alone};
 use crate::best::Best;
 use crate::bounded::{bounds_of, lowest_of};
+use crate::in_turn::pick_in_turn;
 use crate::picked::Picked;
 use crate::purpose::{Purpose, enough_for};
-use crate::stages::{Stage, settle_one, stages_of, take_out};
-use crate::turns::pick_in_turn;
+use crate::stages::{Stage, are_of_one, stages_of, take_out};
 use pl_board::Board;
 use pl_moves::least_left;
 use pl_plan::RepairMove;
 use std::alloc::{AllocError, Global};
 
-// How many aims are tried before moves are tried in their order.
+// How many aims (see `aiming.rt`) are tried before the moves that are then left are tried in their order.
 const AIMS: u32 = 2;
 
-/// What comes of the first of some moves.
+/// What came of trying the first of some moves.
 #[derive(Clone, Copy)]
 pub(crate) enum Started {
     /// The first leaves the fewest conflicts.
-    Settled(Picked),
-    /// Others may leave fewer.
+    Decided(Picked),
+    /// The others may leave fewer.
     Open(Best),
 }
 
-// Tries the first of some moves, given how many conflicts the others leave at least.
+// Tries the first of some moves, given a number of conflicts that each of the others leaves at least.
 fn start_with(
     alloc: Global,
     board: &mut Board,
@@ -48,17 +49,17 @@ fn start_with(
     ensures err { OnErr result (board.new.spoiled ≡ true) }
 {
     match try_alone(alloc, board, first, enough_for(purpose, Some(least)))? {
-        Alone::Made => Ok(Started::Settled(Picked::Made(*first))),
+        Alone::Made => Ok(Started::Decided(Picked::Made(*first))),
         Alone::Undone { left } => {
             if left <= least as usize {
-                return Ok(Started::Settled(Picked::Found(*first)));
+                return Ok(Started::Decided(Picked::Found(*first)));
             }
             Ok(Started::Open(Best { mv: *first, left }))
         }
     }
 }
 
-// How many conflicts these leave at least, by what is known of each alone.
+// A number of conflicts that each of these moves leaves at least. It is found quickly, since little is asked of each move.
 fn least_alone(board: &Board, moves: &[RepairMove]) -> u32
     requires { All (IsAllowed board.now.state) moves.now }
     ensures { All (λ m. result ≤ left_after board.now.state m) moves.now }
@@ -70,8 +71,8 @@ fn least_alone(board: &Board, moves: &[RepairMove]) -> u32
     least
 }
 
-// The best of the first and the others, given a number of conflicts that each of the others leaves at least, by what is known of each
-// alone. If the first leaves more, more is worked out of the others.
+// The best of the first and the others, given a number of conflicts that each of the others leaves at least. If the first leaves
+// more, the bound of each of the others is worked out.
 fn pick_of_few(
     alloc: Global,
     board: &mut Board,
@@ -89,7 +90,7 @@ fn pick_of_few(
     ensures err { OnErr result (board.new.spoiled ≡ true) }
 {
     match start_with(alloc, board, first, least, purpose)? {
-        Started::Settled(picked) => Ok(picked),
+        Started::Decided(picked) => Ok(picked),
         Started::Open(best) => {
             let bounds = bounds_of(alloc, board, rest)?;
             pick_by_aims(alloc, board, best, rest, &bounds, purpose, AIMS)
@@ -97,8 +98,7 @@ fn pick_of_few(
     }
 }
 
-// The best of the first and the others. Before the first is tried it is worked out how many conflicts each of the others leaves at
-// least.
+// The best of the first and the others. The bound of each of the others is worked out before the first is tried.
 fn pick_of_many(
     alloc: Global,
     board: &mut Board,
@@ -116,13 +116,13 @@ fn pick_of_many(
     let bounds = bounds_of(alloc, board, rest)?;
     let least = lowest_of(u32::MAX, &bounds);
     match start_with(alloc, board, first, least, purpose)? {
-        Started::Settled(picked) => Ok(picked),
+        Started::Decided(picked) => Ok(picked),
         Started::Open(best) => pick_by_aims(alloc, board, best, rest, &bounds, purpose, AIMS),
     }
 }
 
-// The best of the first and the others. If few conflicts stand, the first likely leaves no more than each of the others does by what
-// is known of it alone.
+// The best of the first and the others. If few conflicts stand, the number that `least_alone` finds quickly is likely to show that no
+// other move leaves fewer than the first.
 fn pick_by_bounds(
     alloc: Global,
     board: &mut Board,
@@ -144,7 +144,8 @@ fn pick_by_bounds(
     pick_of_many(alloc, board, first, rest, purpose)
 }
 
-// The best of the first and the others, given what each changes: in turn, if they take out the same activities.
+// The best of the first and the others, given what each changes. If all take out the same activities, each is made in place of the
+// one before.
 fn pick_by_stages(
     alloc: Global,
     board: &mut Board,
@@ -168,7 +169,7 @@ fn pick_by_stages(
     pick_by_bounds(alloc, board, first, rest, purpose)
 }
 
-// The best of the first and the others, which choose an alternative of one activity, or take it out.
+// The best of the first and the others, each of which chooses an alternative of one activity or deletes it.
 fn pick_of_choice(
     alloc: Global,
     board: &mut Board,
@@ -211,7 +212,7 @@ fn pick(
     if rest.is_empty() {
         return Ok(Picked::Found(*first));
     }
-    if settle_one(first, rest) {
+    if are_of_one(first, rest) {
         return pick_of_choice(alloc, board, first, rest, purpose);
     }
     pick_by_bounds(alloc, board, first, rest, purpose)

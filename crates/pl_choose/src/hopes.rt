@@ -9,7 +9,7 @@ use pl_board::Board;
 use pl_plan::RepairMove;
 use std::alloc::{AllocError, Global};
 
-/// Some moves, and for each a number of conflicts that it leaves at least.
+/// Some moves, and the bound of each.
 #[derive(Drop)]
 pub(crate) struct Hopes {
     pub(crate) moves: Vec<RepairMove>,
@@ -17,7 +17,7 @@ pub(crate) struct Hopes {
 }
 
 impl Hopes {
-    // With room for so many.
+    // No moves yet, with room for so many.
     fn new(alloc: Global, room: usize) -> Result<Hopes, AllocError>
         ensures moves { IfOk result (λ h. h.moves.items ≡ []) }
         ensures bounds { IfOk result (λ h. h.bounds.items ≡ []) }
@@ -28,7 +28,7 @@ impl Hopes {
         })
     }
 
-    // Keeps a move, unless it is known to leave so many conflicts or more.
+    // Keeps a move if its bound is lower than this number of conflicts.
     fn add_if_hopeful(&mut self, mv: &RepairMove, bound: u32, left: usize) -> Result<(), AllocError>
         ensures moves { OnOk result (self.new.moves.items ≡ self.old.moves.items ++ below left (bound ∷ []) (mv.now ∷ [])) }
         ensures bounds { OnOk result (self.new.bounds.items ≡ self.old.bounds.items ++ below left (bound ∷ []) (bound ∷ [])) }
@@ -41,7 +41,7 @@ impl Hopes {
         Ok(())
     }
 
-    // The moves that are not known to leave so many conflicts or more.
+    // The moves whose bounds are lower than this number of conflicts.
     fn sift(
         alloc: Global,
         moves: &[RepairMove],
@@ -60,7 +60,7 @@ impl Hopes {
     }
 }
 
-/// The moves that may be better than the best so far, given for each a number of conflicts that it leaves at least.
+/// Those of some moves that by their bounds may be better than the best so far.
 pub(crate) fn hopes_of(
     alloc: Global,
     board: &mut Board,

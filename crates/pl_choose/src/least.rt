@@ -22,8 +22,8 @@ use std::alloc::{AllocError, Global};
 #[derive(Clone, Copy, Drop)]
 pub struct Least;
 
-/// Tells which move is chosen, and makes it if it was looked for to be made.
-pub(crate) fn settle(
+/// Answers the proposal, and makes its move if that is the purpose.
+pub(crate) fn make_if_mending(
     alloc: Global,
     board: &mut Board,
     proposal: Proposal,
@@ -62,12 +62,17 @@ pub(crate) fn choose_fewest(
     let conflict = repairs.conflict;
     match fewest(alloc, board, repairs.moves.as_slice(), purpose)? {
         Some(Picked::Made(mv)) => Ok(Some(Proposal { conflict, mv })),
-        Some(Picked::Found(mv)) => settle(alloc, board, Proposal { conflict, mv }, purpose),
+        Some(Picked::Found(mv)) => make_if_mending(
+            alloc,
+            board,
+            Proposal { conflict, mv },
+            purpose,
+        ),
         None => Ok(None),
     }
 }
 
-// Chosen among all legal candidates of the first conflict that has one.
+// Lists the legal candidates of the first conflict that has one, and chooses the best of them.
 fn choose_among(
     alloc: Global,
     board: &mut Board,
@@ -89,7 +94,8 @@ fn choose_among(
     }
 }
 
-// Behind the try of what is promising: it is chosen if it is known to be the best.
+// What is chosen after the promising move was tried and undone: this move if it is known to be the best, else the best of all legal
+// candidates.
 fn choose_behind(
     alloc: Global,
     board: &mut Board,
@@ -105,13 +111,13 @@ fn choose_behind(
     ensures err { OnErr result (board.new.spoiled ≡ true) }
 {
     if is_best {
-        settle(alloc, board, proposal, purpose)
+        make_if_mending(alloc, board, proposal, purpose)
     } else {
         choose_among(alloc, board, purpose)
     }
 }
 
-// What is promising is chosen if it leaves no more conflicts than are known to be left by any.
+// Tries a promising move. It is chosen if it leaves no more conflicts than each legal candidate is known to leave at least.
 fn choose_promising(
     alloc: Global,
     board: &mut Board,

@@ -30,7 +30,7 @@ fn add_if_legal(
     Ok(())
 }
 
-// Appends those of some moves that nothing refuses. Where the stretch has all of them, none is looked at.
+// Appends those of some moves that are legal. Where all lie within the stretch, all are legal, and none is looked at.
 #[tactic(auto, using(crate::proofs::Between::has_all_legal))]
 fn add_legal(
     board: &Board,
@@ -53,8 +53,9 @@ fn add_legal(
     Ok(())
 }
 
-// Appends those of the first move, and of the moves behind it that place the same, that nothing refuses. Of many that place the same,
-// those that start first and last tell of the others. Answers how many were looked at.
+// Takes the first move and those right after it that place the same activities at other starts, and appends those of them that are
+// legal. Of many that come after the first, the first and the last of them, if both are legal, tell of those that start between
+// them. Answers how many moves were taken.
 #[tactic(auto, using(crate::proofs::Finding::run_kept))]
 fn add_run(
     board: &Board,
@@ -78,7 +79,7 @@ fn add_run(
     Ok(count + 1)
 }
 
-// The moves that nothing refuses.
+// Those of the moves that are legal.
 fn legal_among(
     alloc: Global,
     board: &Board,

@@ -8,6 +8,7 @@ mod bounded;
 mod draw;
 mod fewest;
 mod hopes;
+mod in_turn;
 mod least;
 mod legality;
 mod picked;
@@ -22,7 +23,6 @@ mod stages;
 mod stretch;
 mod trial;
 mod tries;
-mod turns;
 
 pub use least::Least;
 pub use seeded::Seeded;

@@ -8,7 +8,7 @@ use pl_cand::Proposal;
 use pl_conflict::Conflict;
 use std::alloc::{AllocError, Global};
 
-/// The one that a word picks, if there is one.
+/// The item that a random word picks, if there is any: the one at the place that is the word modulo how many there are.
 fn picked_by<T: Copy>(word: u32, all: &[T]) -> Option<T>
     ensures { result ≡ picked_by word all.now }
 {
@@ -35,7 +35,7 @@ fn pick_repair(
     }
 }
 
-/// One word picks the conflict, and the other one its repair.
+/// By chance: one random word picks the conflict, and the other one its repair.
 pub(crate) fn pick(
     alloc: Global,
     board: &Board,

@@ -1,5 +1,5 @@
-//! A conflict that stands alone. If the first move that is tried for it leaves as few conflicts as are known to be left by any, none is
-//! better, and the others are not listed.
+//! The first move that is tried for a conflict that stands alone. If it leaves no more conflicts than each of the others is known
+//! to leave at least, none of these is better, and they are not listed.
 ghost use Rattle.std.specs.Prelude.{◌≡◌, true, false, Some, IfSome};
 ghost use Rattle.pl_plan.specs.declared.repair.RepairMove.TheVariants.{Add};
 ghost use Rattle.pl_semantics.specs.Whole.{IsWhole};
@@ -19,7 +19,7 @@ use pl_moves::{is_legal, proper};
 use pl_plan::{Activity, RepairMove};
 use pl_semantics::PlanState;
 
-// ---- what is likely to leave no conflict: any answer would do, and owes no proof
+// ---- which moves are likely to leave no conflict: the answers save time alone, so none of them could be wrong, and none needs a proof
 
 fn needs_state(reservation: &Reservation) -> bool {
     matches!(
@@ -28,7 +28,7 @@ fn needs_state(reservation: &Reservation) -> bool {
     )
 }
 
-// Whether it asks for no partner and for no state.
+// Whether activities of this kind ask for no partner and for no state.
 fn is_undemanding(kind: &Kind) -> bool {
     kind.links.is_empty() && !kind.reservations.as_slice().iter().any(|r| needs_state(r))
 }
@@ -46,7 +46,7 @@ fn are_undemanding(state: &PlanState, slots: &[Slot]) -> bool {
 
 // ---- the first move
 
-// The first start that is tried for a goal, where one is.
+// The first start that is tried for a goal, if any is tried.
 fn first_start(state: &PlanState, goal: &Goal) -> Option<u32>
     requires { IsWhole state.now }
     ensures { IfSome result (λ start. BeginsWith (Add goal.now.kind start (Some goal.now.number)) (for_goal state.now goal.now)) }
@@ -59,7 +59,7 @@ fn first_start(state: &PlanState, goal: &Goal) -> Option<u32>
     }
 }
 
-// The first addition that is tried for a goal that may not be dropped, where one is.
+// The first addition that is tried for a goal that may not be dropped, if any is tried.
 fn first_addition(state: &PlanState, goal: &Goal) -> Option<RepairMove>
     requires whole { IsWhole state.now }
     requires goal { goal_at state.now goal.now.number ≡ Some goal.now }
@@ -75,7 +75,8 @@ fn first_addition(state: &PlanState, goal: &Goal) -> Option<RepairMove>
     })
 }
 
-// The same of a goal that may be dropped is not told: its drop may leave fewer conflicts.
+// The same for any goal, if the addition is likely to leave no conflict. There is none for a goal that may be dropped, since its drop
+// may leave fewer conflicts.
 fn first_if_likely(state: &PlanState, goal: &Goal) -> Option<RepairMove>
     requires whole { IsWhole state.now }
     requires goal { goal_at state.now goal.now.number ≡ Some goal.now }
@@ -89,7 +90,7 @@ fn first_if_likely(state: &PlanState, goal: &Goal) -> Option<RepairMove>
     }
 }
 
-// The first move that is tried for the goal of this number, where it is told.
+// The same for the goal of this number.
 fn first_for_goal(state: &PlanState, number: u32) -> Option<RepairMove>
     requires { IsWhole state.now }
     ensures foremost { IfSome result (λ m. IsForemost state.now m (of_found (for_goal state.now) (goal_at state.now number))) }
@@ -101,7 +102,7 @@ fn first_for_goal(state: &PlanState, number: u32) -> Option<RepairMove>
     }
 }
 
-// The first alternative of an activity, where its kind has some.
+// The choice of an activity's first alternative, if it has one that is likely to leave no conflict.
 fn first_alternative(state: &PlanState, a: &Activity) -> Option<RepairMove>
     ensures foremost { IfSome result (λ m. IsForemost state.now m (for_undetailed state.now a.now)) }
     ensures changes { IfSome result (λ m. changes_nothing state.now m ≡ false) }
@@ -115,7 +116,7 @@ fn first_alternative(state: &PlanState, a: &Activity) -> Option<RepairMove>
     }
 }
 
-// The first move that is tried for the activity of this id that lacks an alternative, where it chooses one.
+// The same for the activity of this id.
 fn first_for_undetailed(state: &PlanState, id: u32) -> Option<RepairMove>
     ensures foremost { IfSome result (λ m. IsForemost state.now m (of_found (for_undetailed state.now) (found state.now id))) }
     ensures changes { IfSome result (λ m. changes_nothing state.now m ≡ false) }
@@ -126,7 +127,8 @@ fn first_for_undetailed(state: &PlanState, id: u32) -> Option<RepairMove>
     }
 }
 
-// The first move that is tried for an open goal, or for an activity that lacks an alternative, where it is told. No list is made.
+// The first move that is tried for an open goal, or for an activity that lacks an alternative, if it is likely to leave no
+// conflict. No list is made.
 fn first_tried(state: &PlanState, k: &Conflict) -> Option<RepairMove>
     requires { IsWhole state.now }
     ensures foremost { IfSome result (λ m. IsForemost state.now m (tried_for state.now k.now k.now.code)) }
@@ -139,7 +141,7 @@ fn first_tried(state: &PlanState, k: &Conflict) -> Option<RepairMove>
     }
 }
 
-// The first candidate of such a conflict, where the first move that is tried is one.
+// This move, if it makes sense: then it is the first candidate of the conflict.
 fn first_candidate(board: &Board, k: &Conflict) -> Option<RepairMove>
     requires { board.now.spoiled ≡ false }
     ensures foremost { IfSome result (λ m. IsForemost board.now.state m (candidates_of board.now.state k.now)) }
@@ -149,7 +151,7 @@ fn first_candidate(board: &Board, k: &Conflict) -> Option<RepairMove>
     if proper(board, &mv) { Some(mv) } else { None }
 }
 
-// The first legal candidate of such a conflict, where the first move that is tried is one.
+// This move, if it is legal as well: then it is the first legal candidate of the conflict.
 fn first_legal(board: &Board, k: &Conflict) -> Option<RepairMove>
     requires { board.now.spoiled ≡ false }
     ensures { IfSome result (λ m. IsForemost board.now.state m (legal_for board.now.state k.now)) }
@@ -158,7 +160,7 @@ fn first_legal(board: &Board, k: &Conflict) -> Option<RepairMove>
     if is_legal(board, &mv) { Some(mv) } else { None }
 }
 
-/// The foremost legal candidate of the only conflict, where it is told without a list.
+/// The first legal candidate of the only conflict, if it is found without a list and no other has a lower bound.
 pub(crate) fn promising(board: &Board) -> Option<Proposal>
     requires { board.now.spoiled ≡ false }
     ensures { IfSome result (IsPromising board.now.state) }

@@ -26,7 +26,7 @@ fn repairs_for(
     }))
 }
 
-/// The first conflict that has a legal candidate.
+/// The first conflict that has a legal candidate, with all its legal candidates.
 pub(crate) fn first_repairs(alloc: Global, board: &Board) -> Result<Option<Repairs>, AllocError>
     requires { board.now.spoiled ≡ false }
     ensures { IfOk result (AreFirst board.now.state) }

@@ -7,7 +7,7 @@ ghost use Rattle.pl_choose.specs.Picked.{behind};
 ghost use Rattle.pl_choose.specs.Picks.{word_of, after_word, is_random, draw_of, pick_by, random_pick, seeded_pick, seeded_after};
 
 use crate::draw::Draw;
-use crate::least::{choose_fewest, choose_least, settle};
+use crate::least::{choose_fewest, choose_least, make_if_mending};
 use crate::picking::pick;
 use crate::purpose::Purpose;
 use crate::repairs::Repairs;
@@ -19,7 +19,8 @@ use rand_pcg::Lcg64Xsh32;
 use std::alloc::{AllocError, Global};
 use std::marker::Model;
 
-/// Chooses as [`crate::Least`] does, and for one word in eight by chance. Contracts see it as its generator.
+/// Draws a random word for each choice. For one word in eight it chooses by chance, else as [`crate::Least`] does. Contracts see it
+/// as its generator.
 #[derive(Drop)]
 pub struct Seeded {
     generator: Lcg64Xsh32,
@@ -34,7 +35,7 @@ impl Model for Seeded {
 }
 
 impl Seeded {
-    /// A chooser with the words of this seed.
+    /// A chooser that draws the words of this seed.
     pub fn new(seed: u64) -> Seeded
         ensures { result ≡ started 64 multiplier_64 seed (increment_of 64 0) }
     {
@@ -66,7 +67,8 @@ impl Seeded {
         Draw::AtRandom { conflict, repair }
     }
 
-    /// Draws, and makes the repair, where the first conflict that has a legal candidate is known.
+    /// Draws, and makes the repair that is chosen. `first` is the first conflict that has a legal candidate, with its legal
+    /// candidates.
     #[tactic(auto, unfolding(crate::specs::Picks::seeded_pick))]
     fn mend_from(
         &mut self,
@@ -94,7 +96,7 @@ fn is_random(word: u32) -> bool
     word % 8 == 0
 }
 
-// The candidate that two words pick, and what it was looked for.
+// The candidate that two random words pick. It is made if that is the purpose.
 fn choose_at_random(
     alloc: Global,
     board: &mut Board,
@@ -109,7 +111,7 @@ fn choose_at_random(
     ensures err { OnErr result (board.new.spoiled ≡ true) }
 {
     match pick(alloc, board, conflict, repair) {
-        Ok(Some(proposal)) => settle(alloc, board, proposal, purpose),
+        Ok(Some(proposal)) => make_if_mending(alloc, board, proposal, purpose),
         Ok(None) => Ok(None),
         Err(fault) => {
             board.spoil();
@@ -118,7 +120,8 @@ fn choose_at_random(
     }
 }
 
-// Makes the repair, where the first conflict that has a legal candidate is known.
+// Makes the repair that is chosen by what was drawn. `first` is the first conflict that has a legal candidate, with its legal
+// candidates.
 fn mend_by(
     alloc: Global,
     board: &mut Board,

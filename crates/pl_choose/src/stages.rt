@@ -17,8 +17,8 @@ pub(crate) struct Stage {
     pub(crate) trial: Trial,
 }
 
-// Whether the move chooses an alternative of the activity of this id, or takes it out.
-fn settles(id: u32, mv: &RepairMove) -> bool
+// Whether the move chooses an alternative of the activity of this id, or deletes it.
+fn chooses_or_deletes(id: u32, mv: &RepairMove) -> bool
     ensures { result ≡ true → IsOfActivities mv.now }
 {
     match *mv {
@@ -28,12 +28,13 @@ fn settles(id: u32, mv: &RepairMove) -> bool
     }
 }
 
-/// Whether the moves choose alternatives of one activity, the first one does, or take it out.
-pub(crate) fn settle_one(first: &RepairMove, rest: &[RepairMove]) -> bool
+/// Whether the first move chooses an alternative of an activity, and each other one chooses an alternative of the same activity or
+/// deletes it.
+pub(crate) fn are_of_one(first: &RepairMove, rest: &[RepairMove]) -> bool
     ensures { result ≡ true → All IsOfActivities (first.now ∷ rest.now) }
 {
     match *first {
-        RepairMove::Detail { id, .. } => rest.iter().all(|mv| settles(id, mv)),
+        RepairMove::Detail { id, .. } => rest.iter().all(|mv| chooses_or_deletes(id, mv)),
         _ => false,
     }
 }

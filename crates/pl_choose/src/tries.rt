@@ -13,14 +13,14 @@ use pl_plan::RepairMove;
 use pl_points::{Quiet, Steps};
 use std::alloc::{AllocError, Global};
 
-/// The best so far, and how many of some moves it has been tried against.
+/// The best so far, and how many of some moves have been tried.
 #[derive(Clone, Copy)]
 pub(crate) struct Tried {
     pub(crate) best: Best,
     pub(crate) count: usize,
 }
 
-/// The better of two, the first where they are level.
+/// The better of two moves: the second if it leaves fewer conflicts, else the first.
 pub(crate) fn better(best: Best, mv: &RepairMove, left: usize) -> Best
     ensures { result ≡ better_of best mv.now left }
 {
@@ -30,7 +30,7 @@ pub(crate) fn better(best: Best, mv: &RepairMove, left: usize) -> Best
     best
 }
 
-// The best of one and some others in turn, given their counts.
+// The best of a first move and some others, given how many conflicts each of the others leaves.
 fn best_among(
     alloc: Global,
     board: &mut Board,
@@ -54,7 +54,7 @@ fn best_among(
     Ok(best)
 }
 
-// Tries the first of some moves, and with it those that go on with it, up to one that is better.
+// Tries the first of some moves, and right after it those that place the same activities at other starts, up to one that is better.
 fn try_run(
     alloc: Global,
     board: &mut Board,
@@ -85,7 +85,8 @@ fn try_run(
     })
 }
 
-/// Tries some moves in their order up to one that is better, and with it those that go on with it.
+/// Tries some moves in their order, up to one that is better than the best so far. Moves in a row that place the same activities at
+/// other starts are tried together.
 pub(crate) fn try_until_better(
     alloc: Global,
     board: &mut Board,

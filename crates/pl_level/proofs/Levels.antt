@@ -1,5 +1,5 @@
 -- What a change leaves of a sound level.
-use Rattle.std.proofs.Common.{◌≡◌, ℕ, ◌+◌, ◌^◌, ◌<◌, ◌≤◌, Bool, true, false, ◌&&◌, cond, List, [], ◌∷◌, ◌++◌, length, refl, ap, sym, ◌∙◌, subst, arith, eqb, ltb, leb, min, max, ℤ, pos, ◌+ℤ◌, ◌-ℤ◌, ◌≤ℤ◌, neg_ℤ}
+use Rattle.std.proofs.Common.{◌≡◌, ℕ, ◌+◌, ◌^◌, ◌<◌, ◌≤◌, Bool, true, false, ◌&&◌, ◌||◌, cond, List, [], ◌∷◌, ◌++◌, length, refl, ap, sym, ◌∙◌, subst, arith, eqb, ltb, leb, min, max, ℤ, pos, ◌+ℤ◌, ◌-ℤ◌, ◌≤ℤ◌, neg_ℤ}
 use Rattle.std.specs.Ordering.{int_eq}
 use Rattle.std.specs.Prelude.{int_lt}
 use Rattle.std.proofs.lemmas.Bool.{cond_both, eqb-true, true≢false, and_parts, leb-true, leb-false, lt-ltb, le-ltb, le-leb}
@@ -13,7 +13,7 @@ use Rattle.pl_lists.proofs.Numbers.{add_nothing}
 use Rattle.pl_points.specs.declared.span.Span.{Span}
 use Rattle.pl_points.specs.declared.limit.Limit.TheVariants.{Below, Above}
 use Rattle.pl_points.specs.Sums.{total, IsSmall}
-use Rattle.pl_points.specs.Points.{Point, sum_to, merged, AreSmall, RiseFrom}
+use Rattle.pl_points.specs.Points.{Point, sum_to, is_out, merged, AreSmall, RiseFrom}
 use Rattle.pl_points.specs.Limits.{is_outside}
 use Rattle.pl_points.specs.Spans.{within, covers, AreSpans, AreMaximal, span}
 use Rattle.pl_points.specs.Mending.{mended}
@@ -94,6 +94,15 @@ low_test x v l b = grind (arith, ints)
 
 high_test : (x v l b : ℤ) → int_lt ((l -ℤ v) +ℤ b) x ≡ int_lt l (v +ℤ (x -ℤ b))
 high_test x v l b = grind (arith, ints)
+
+-- the level is out of two bounds where the sum of the points is out of the sums for them
+pub out_is : (s : Standing) (b : ℤ) (ps : List Point) (least most l m : ℤ) (t : ℕ) → IsTied s b ps → s.base ≤ t → l ≡ (least -ℤ s.value) +ℤ b → m ≡ (most -ℤ s.value) +ℤ b → is_out l m (sum_to ps t) ≡ is_out least most (level s t)
+out_is s b ps least most l m t tied le is_l is_m =
+    let sum = sum_to ps t in
+    let at : s.value +ℤ (sum -ℤ b) ≡ level s t = sym (level_is s b ps t tied le) in
+    let low : int_lt sum l ≡ int_lt (level s t) least = ap (int_lt sum) is_l ∙ low_test sum s.value least b ∙ ap (λ z. int_lt z least) at in
+    let high : int_lt m sum ≡ int_lt most (level s t) = ap (λ z. int_lt z sum) is_m ∙ high_test sum s.value most b ∙ ap (int_lt most) at in
+    ap (λ v. v || int_lt m sum) low ∙ ap (λ v. int_lt (level s t) least || v) high
 
 -- both lists after a mend from a moment on
 pub remend_low : (s s' : Standing) (b : ℤ) (ps : List Point) (low low' : List Span) (from : ℕ) → IsTied s' b ps → AreMaximal (is_low s) s'.moment s'.horizon low → AreSpans low'

@@ -7,7 +7,7 @@ use Rattle.pl_points.specs.declared.noted.Noted.{Noted}
 use Rattle.pl_points.specs.declared.noted.Noted.TheVariants.{Came, Went}
 use Rattle.pl_points.specs.declared.limit.Limit.TheVariants.{Below, Above}
 use Rattle.pl_points.specs.Sums.{IsSmall}
-use Rattle.pl_points.specs.Points.{Point, merged, sum_to, AreSmall}
+use Rattle.pl_points.specs.Points.{Point, merged, sum_to, is_out, AreSmall}
 use Rattle.pl_points.specs.Limits.{is_outside}
 use Rattle.pl_points.specs.Spans.{covers, AreSpans}
 use Rattle.pl_points.specs.Mending.{mended}
@@ -15,9 +15,9 @@ use Rattle.pl_points.specs.Counting.{walk_steps, points_after, goes_outside}
 use Rattle.pl_points.specs.Standing.{Each, stands, without, noted, standing}
 use Rattle.pl_points.proofs.Totals.{IsAmount, standing-push, each-stands}
 use Rattle.pl_level.specs.declared.reservation.Effect.{Effect}
-use Rattle.pl_level.specs.Effects.{Standing, IsEffect, effect_of, same_effect, effect_steps}
-use Rattle.pl_level.specs.Soundness.{IsSound, IsShift}
-use Rattle.pl_level.proofs.Levels.{make, raw, value_small, before_small, amount_small, small_add, before_after, begin, begin_late, begin_bound, level_cost, change_cost, sound_shifted, shift_more, shift_less, amount_of, same_exact, raw_back}
+use Rattle.pl_level.specs.Effects.{Standing, IsEffect, effect_of, same_effect, level, effect_steps}
+use Rattle.pl_level.specs.Soundness.{IsTied, IsSound, IsShift}
+use Rattle.pl_level.proofs.Levels.{make, out_is, raw, value_small, before_small, amount_small, small_add, before_after, begin, begin_late, begin_bound, level_cost, change_cost, sound_shifted, shift_more, shift_less, amount_of, same_exact, raw_back}
 
 -- a number as the program holds it
 abbrev pub held : ℤ → ℤ
@@ -28,6 +28,14 @@ held_small z is = subst (λ x. IsSmall x) (sym (raw z is)) is
 
 pub limit_is : (z l x v b : ℤ) → IsSmall z → x ≡ v → held b ≡ b → l ≡ (held z -ℤ x) +ℤ held b → l ≡ (z -ℤ v) +ℤ b
 limit_is z l x v b small same exact is = is ∙ (ap (λ y. (y -ℤ x) +ℤ held b) (raw z small) ∙ (ap (λ y. (z -ℤ y) +ℤ held b) same ∙ ap (λ y. (z -ℤ v) +ℤ y) exact))
+
+-- the level is out of two bounds where the sum of the points is out of the sums that a program works out for them
+pub out_held : (s : Standing) (b : ℤ) (ps : List Point) (least most l m : ℤ) (t : ℕ) → IsTied s b ps → IsSmall least → IsSmall most → s.base ≤ t → l ≡ (held least -ℤ held s.value) +ℤ held b → m ≡ (held most -ℤ held s.value) +ℤ held b
+    → is_out l m (sum_to ps t) ≡ is_out least most (level s t)
+out_held s b ps least most l m t tied low high le is_l is_m =
+    let value = raw s.value (value_small s.value tied.value) in
+    let before = raw b (before_small s b ps tied) in
+    out_is s b ps least most l m t tied le (limit_is least l (held s.value) s.value b low value before is_l) (limit_is most m (held s.value) s.value b high value before is_m)
 
 -- what is known where a change begins
 pub record IsReady (s : Standing) (b : ℤ) (ps : List Point) (low high : List Span) (at : ℕ) (d : ℤ) (note : Noted Effect) : Type 0 where

@@ -1,12 +1,12 @@
 ghost use Rattle.std.specs.Prelude.{◌≡◌, ◌<◌, ◌≤◌, ◌+◌, neg_ℤ, true, false, [], ◌∷◌, ◌++◌, length, OnOk, OnErr, IfOk, IsErr};
 ghost use Rattle.pl_points.specs.Changes.{IsChange};
 ghost use Rattle.pl_points.specs.Standing.{without, stands, noted};
-ghost use Rattle.pl_level.specs.Effects.{IsEffect, IsValue, effect_of, same_effect, level, low_now, high_now, effect_steps};
+ghost use Rattle.pl_level.specs.Effects.{IsEffect, IsValue, effect_of, same_effect, low_now, high_now, effect_steps};
 ghost use Rattle.pl_level.specs.Soundness.{AreChanges, IsShift};
 
 use crate::kept::Kept;
 use crate::reservation::{Effect, LevelChange};
-use crate::windows::{forget_both, mend_both, sum_before, sums_for, value_for, window_of};
+use crate::windows::{forget_both, mend_both, sum_before, sums_for, window_of};
 use pl_lists::Copied;
 use pl_points::{Ledger, Noted, Points, Span, Steps, Told};
 use std::alloc::{AllocError, Global};
@@ -21,11 +21,11 @@ pub struct Level<P: Points> {
     most: i64,
     moment: u32,
     base: u32,
-    value: i64,
+    pub(crate) value: i64,
     // The sum of the points up to the base's moment.
-    before: i64,
-    spoiled: bool,
-    points: P,
+    pub(crate) before: i64,
+    pub(crate) spoiled: bool,
+    pub(crate) points: P,
     low: Kept,
     high: Kept,
     notes: Told<Noted<Effect>>,
@@ -222,19 +222,6 @@ impl<P: Points> Level<P> {
         self.moment = now;
         self.spoiled = false;
         Ok(change)
-    }
-
-    /// The level at a moment.
-    pub fn at<L: Ledger>(&self, t: u32, steps: &mut Steps<L>) -> i64
-        requires now { self.now.spoiled ≡ false → self.now.moment ≤ t }
-        requires before_horizon { self.now.spoiled ≡ false → t < self.now.horizon }
-        ensures { self.now.spoiled ≡ false → result ≡ level self.now t }
-    {
-        if self.spoiled {
-            return 0;
-        }
-        let sum = self.points.sum_to(t, steps);
-        value_for(self.value, sum, self.before)
     }
 
     /// The maximal spans at which the level is below its least.

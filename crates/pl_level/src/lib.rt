@@ -4,6 +4,7 @@
 mod bounded;
 mod kept;
 mod level;
+mod reading;
 mod reservation;
 mod sharing;
 mod windows;

@@ -1,6 +1,6 @@
-ghost use Rattle.std.specs.Prelude.{◌≡◌, ◌<◌, ◌≤◌, ◌+◌, length, ◌≤ℤ◌, ◌+ℤ◌, ◌-ℤ◌, ◌^◌, ℕ, ℤ, pos, neg_ℤ, nat_le, false, OnOk, IfOk, max, min, if◌then◌else◌};
+ghost use Rattle.std.specs.Prelude.{◌≡◌, ◌<◌, ◌≤◌, ◌+◌, length, ◌≤ℤ◌, ◌+ℤ◌, ◌-ℤ◌, ◌^◌, ℕ, ℤ, pos, neg_ℤ, nat_le, true, false, OnOk, IfOk, max, min, if◌then◌else◌};
 ghost use Rattle.pl_points.specs.Sums.{IsSmall};
-ghost use Rattle.pl_points.specs.Points.{sum_to};
+ghost use Rattle.pl_points.specs.Points.{sum_to, is_out};
 ghost use Rattle.pl_points.specs.Limits.{is_outside};
 ghost use Rattle.pl_points.specs.declared.limit.Limit.TheVariants.{Below, Above};
 ghost use Rattle.pl_points.specs.Spans.{AreSpans, covers};
@@ -60,6 +60,40 @@ pub(crate) fn sums_for(least: i64, most: i64, value: i64, before: i64) -> Sums
     Sums {
         least: least - value + before,
         most: most - value + before,
+    }
+}
+
+// Whether a sum is below the least or above the most of the two.
+fn is_out(sums: Sums, sum: i64) -> bool
+    ensures { result ≡ is_out sums.least sums.most sum }
+{
+    sum < sums.least || sums.most < sum
+}
+
+// The first moment of the window at which the points add up to less than the least sum or more than the most, or the window's end.
+pub(crate) fn first_out<P: Points, L: Ledger>(
+    points: &P,
+    sums: Sums,
+    window: Span,
+    steps: &mut Steps<L>,
+) -> u32
+    requires { window.from ≤ window.to }
+    ensures low { window.from ≤ result }
+    ensures bound { result ≤ window.to }
+    ensures within { (t : ℕ) → window.from ≤ t → t < result → is_out sums.least sums.most (sum_to (P.points points.now) t) ≡ false }
+    ensures leaves { result < window.to → is_out sums.least sums.most (sum_to (P.points points.now) result) ≡ true }
+{
+    let from = window.from;
+    let sum = points.sum_to(from, steps);
+    if from == window.to {
+        return from;
+    }
+    if is_out(sums, sum) {
+        return from;
+    }
+    match points.first_outside(from + 1, sum, sums.least, sums.most, steps) {
+        Some((moment, _)) => moment.min(window.to),
+        None => window.to,
     }
 }
 

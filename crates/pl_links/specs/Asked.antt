@@ -26,7 +26,7 @@ asked_from point kind own [] = false
 asked_from point kind own (x ∷ kinds) =
     list_any (asks point kind own) x.links || asked_from point kind (own + 1) kinds
 
--- whether some link asks for the point of each kind below this one
+-- for each kind below this one, whether some link asks for its point
 abbrev pub asked_below : Point → List Kind → ℕ → List Bool
 asked_below point kinds zero = []
 asked_below point kinds (suc n) = asked_below point kinds n ++ (asked_from point n 0 kinds ∷ [])

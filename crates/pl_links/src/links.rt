@@ -1,4 +1,4 @@
-ghost use Rattle.std.specs.Prelude.{◌≡◌, ◌+◌, [], OnOk, OnErr, IfOk, IfErr, filter, is_some};
+ghost use Rattle.std.specs.Prelude.{◌≡◌, ◌+◌, [], OnOk, OnErr, IfOk, IfErr, filter};
 ghost use Rattle.std.specs.List.{list_any};
 ghost use Rattle.std.specs.Map.Iter.{ShowsInOrder, deref};
 ghost use Rattle.pl_links.specs.declared.broken.Broken.{Broken};
@@ -130,13 +130,6 @@ impl Links {
         self.broken.iter().copied().collect(alloc)
     }
 
-    /// Whether the activity of this id is placed.
-    pub fn is_placed(&self, id: u32) -> bool
-        ensures { result ≡ is_some (item_of id self.now.items) }
-    {
-        self.store.item(id).is_some()
-    }
-
     /// The placed activity of this id.
     pub fn item(&self, id: u32) -> Option<Placed>
         ensures { result ≡ item_of id self.now.items }
@@ -145,7 +138,7 @@ impl Links {
     }
 
     /// Whether an activity, which need not be placed, has a partner for its link among the placed
-    /// ones. For a link of the model they are not walked through.
+    /// ones. For a link of the model with which the first was placed they are not walked through.
     pub fn has_partner(&self, own: &Placed, link: &Link) -> bool
         ensures { result ≡ list_any (is_partner link.now own.now) self.now.items }
     {

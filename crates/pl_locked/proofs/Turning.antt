@@ -41,7 +41,7 @@ use Rattle.pl_acts.specs.declared.sight.Sight.{Sight}
 use Rattle.pl_acts.specs.Items.{items_of, entries_in, model_in, stop_in, InWorld}
 use Rattle.pl_acts.specs.Roles.{has_event, IsChosen, IsInputOf}
 use Rattle.pl_acts.specs.Replicas.{log_of, IsReplica, IsDraft, IsDraftOf}
-use Rattle.pl_acts.specs.Sights.{AsksIn, HasRoom, at_once, IsPlanned, IsDueBy}
+use Rattle.pl_acts.specs.Sights.{AsksIn, HasRoomIn, at_once, IsPlanned, IsDueBy}
 use Rattle.pl_acts.specs.Inside as inside
 use Rattle.pl_acts.specs.Signing.{Written}
 use Rattle.pl_acts.specs.Inside.{signs_in, items_in, IsSound, IsStepIn, Logs, KeepsLog, Spoiled, can_listen, FeedsIn, IsPart, Wants, Executes, ExecutesIn, RestsAtOnce, LooksIn, SettlesIn}
@@ -152,7 +152,7 @@ module _ (old mid new : PlanPass) (held held2 : Held) (turn : Turn old mid new h
         let P : List Entry → Type 0 = λ es. held.plan.machine.world.options.entries ≤ length es in
         stands_in (λ w. w.options.entries ≤ length (entries_in (seen_of new))) unspoiled (subst P (sym entries_are) full)
 
-    room_in : held.plan.machine.spoiled ≡ false → length held.plan.machine.log < held.plan.machine.world.options.entries → HasRoom (seen_of new)
+    room_in : held.plan.machine.spoiled ≡ false → length held.plan.machine.log < held.plan.machine.world.options.entries → HasRoomIn (seen_of new)
     room_in unspoiled room =
         let P : List Entry → Type 0 = λ es. length es < held.plan.machine.world.options.entries in
         stands_in (λ w. length (entries_in (seen_of new)) < w.options.entries) unspoiled (subst P (sym entries_are) room)

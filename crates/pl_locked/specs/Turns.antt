@@ -31,7 +31,7 @@ use Rattle.pl_acts.specs.declared.sight.View.TheVariants as view
 use Rattle.pl_acts.specs.Items.{model_in, signer_in, stop_in, InWorld}
 use Rattle.pl_acts.specs.Roles.{worker_of, has_event, IsInputOf, kind_of, is_entry}
 use Rattle.pl_acts.specs.Replicas.{IsReplicaOf, IsDraftOf}
-use Rattle.pl_acts.specs.Sights.{AsksIn, HasRoom, IsSight, IsDueBy, IsKept, IsAskedAtMost}
+use Rattle.pl_acts.specs.Sights.{AsksIn, HasRoomIn, IsSight, IsDueBy, IsKept, IsAskedAtMost}
 use Rattle.pl_acts.specs.Inside.{IsStepIn, can_listen}
 use Rattle.pl_acts.specs.Making.{MakesAll}
 use Rattle.pl_acts.specs.Seen.{IsFull, IsOver, WasAskedAtMost}
@@ -87,7 +87,7 @@ Acts by r old (Err stop.Memory) r2 new = MakesNothing old new × IsAskedAtMost r
 -- What a planner's look finds, exactly by its cause, in this order: Finished, Stopped, Nothing, LogFull, a rest for a plain reason, and else a replica to be asked about.
 abbrev pub Looks : Author → PlanPass → Result Looked Stop → PlanPass → Type 0
 Looks by old (Ok (looked.Settled a)) new = (g : Lcg) → Acts by (Planner g) old (Ok a) (Planner g) new
-Looks by old (Ok (looked.Open draft)) new = MakesNothing old new × InWorld (seen_of new) AsksIn × HasRoom (seen_of new) × IsDraftOf (seen_of new) draft
+Looks by old (Ok (looked.Open draft)) new = MakesNothing old new × InWorld (seen_of new) AsksIn × HasRoomIn (seen_of new) × IsDraftOf (seen_of new) draft
 Looks by old (Err s) new = (g : Lcg) → Acts by (Planner g) old (Err s) (Planner g) new
 
 -- The chooser was asked in the world after all that the pass has seen behind the call, and has drawn its words once.

@@ -1,4 +1,4 @@
--- How far ahead a plan was looked at: how long nothing more starts, and which activities have started for good.
+-- What is known of the starts ahead: up to when nothing more starts, and which activities are settled.
 use Rattle.std.specs.Prelude.{◌≡◌, ℕ, ◌≤◌, ◌⊎◌, nat_le, nat_lt, ◌&&◌, Bool, true, List, [], ◌∷◌, All, length, take, if◌then◌else◌}
 use Rattle.pl_plan.specs.declared.activity.Activity.{Activity}
 use Rattle.pl_semantics.specs.declared.plan_state.PlanState.{PlanState}
@@ -6,15 +6,15 @@ use Rattle.pl_machine.specs.declared.ahead.Ahead.{Ahead}
 use Rattle.pl_machine.specs.declared.change.Change.{Change}
 use Rattle.pl_machine.specs.declared.change.Change.TheVariants.{Accept, Tell, Tick, Commit, Repair, Measure, Withdraw}
 
--- No activity starts behind a moment and before another.
+-- No activity starts after a moment and before another one.
 abbrev pub StartsNone : ℕ → ℕ → List Activity → Type 0
 StartsNone moment next activities = All (λ a. (a.start ≤ moment) ⊎ (next ≤ a.start)) activities
 
--- the start, where it lies behind the moment and before the next one
+-- the start, if it lies after the moment and before the next one, else the next one
 abbrev pub nearer : ℕ → ℕ → ℕ → ℕ
 nearer moment next start = if nat_lt moment start && nat_lt start next then start else next
 
--- the least start behind the moment, at most so much
+-- the earliest start after the moment, or this number if it is lower
 abbrev pub next_start : ℕ → ℕ → List Activity → ℕ
 next_start moment next [] = next
 next_start moment next (a ∷ more) = next_start moment (nearer moment next a.start) more
@@ -23,12 +23,12 @@ next_start moment next (a ∷ more) = next_start moment (nearer moment next a.st
 abbrev pub is_settled : ℕ → ℕ → Activity → Bool
 is_settled moment c a = nat_le a.start moment && nat_lt a.start c
 
--- there are so many at the front, and they are settled
+-- this many activities are at the front of the list, and they are settled
 pub record AreSettled (moment c settled : ℕ) (activities : List Activity) : Type 0 where
   pub few : settled ≤ length activities
   pub each : All (λ a. is_settled moment c a ≡ true) (take settled activities)
 
--- Of a plan at a moment: how far ahead it was looked at.
+-- What is known of the starts ahead holds of the plan at a moment.
 pub record IsAheadAt (moment : ℕ) (s : PlanState) (ahead : Ahead) : Type 0 where
   pub calm : StartsNone moment ahead.next_start s.plan.activities
   pub settled : AreSettled moment s.committed ahead.settled s.plan.activities
@@ -37,7 +37,7 @@ pub record IsAheadAt (moment : ℕ) (s : PlanState) (ahead : Ahead) : Type 0 whe
 abbrev pub IsAhead : PlanState → Ahead → Type 0
 IsAhead s ahead = IsAheadAt s.moment s ahead
 
--- a repair may place an activity at any moment, but touches none that is settled
+-- what is still known after a change: a repair may place an activity at any moment, but touches none that is settled
 abbrev pub ahead_after : Change → Ahead → Ahead
 ahead_after (Accept goal) ahead = ahead
 ahead_after (Tell line value) ahead = ahead

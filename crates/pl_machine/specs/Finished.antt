@@ -1,4 +1,4 @@
--- What it is that a log has answered a whole input.
+-- What it means that a log has answered a whole input.
 use Rattle.std.specs.Prelude.{◌≡◌, ℕ, List, true, Option, Some, None}
 use Rattle.std.specs.List.{filter_map}
 use Rattle.pl_model.specs.declared.whole.Model.{Model}

@@ -29,12 +29,12 @@ Stops old stop.NotNow new = ⊥
 Stops old stop.LogFull new = ⊥
 Stops old stop.Spoiled new = ⊥
 
--- a log behind a repair that was made, if one was
+-- the log after a repair that was made, if one was
 abbrev pub logged : Option Proposal → List Entry → List Entry
 logged None log = log
 logged (Some p) log = log ++ record { event = event.Fix p.conflict p.mv; reply = reply.Done } ∷ []
 
--- how far ahead a plan was looked at behind it
+-- what is still known of the starts ahead after it
 abbrev pub ahead_behind : Option Proposal → Ahead → Ahead
 ahead_behind None ahead = ahead
 ahead_behind (Some p) ahead = ahead_after (Repair p.mv) ahead

@@ -35,6 +35,6 @@ abbrev pub solo_from : {C : Type 0} → Picks C → World → C → List Entry �
 solo_from picks w c [] c2 = c2 ≡ c
 solo_from {C} picks w c (e ∷ es) c2 = (middle : C) × IsSoloEvent picks w c e.event middle × solo_from picks (after w e.event) middle es c2
 
--- the same of a log, behind the open entry
+-- the same of a log, after its open entry
 unfoldable pub SoloBy : {C : Type 0} → Picks C → C → Model → List Entry → C → Type 0
 SoloBy picks c m log c2 = solo_from picks (fresh_world m (options_of log)) c (entries_behind log) c2

@@ -17,7 +17,8 @@ pub record State : Type 0 where
   pub log : List Entry
   pub world : World
 
--- The plan state is the one after the log, the kept list is what is due, it was looked so far ahead, and the ids given so far are few.
+-- The plan state is the one after the log, the kept list is what is due, what is known of the starts ahead holds, and few ids have
+-- been given so far.
 pub record IsStanding (m : Model) (log : List Entry) (w : World) (due : List ℕ) (ahead : Ahead) : Type 0 where
   pub model : w.state.model ≡ m
   pub world : w ≡ world_of m log

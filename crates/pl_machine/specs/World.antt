@@ -45,7 +45,7 @@ reason_by (k ∷ ks) true stuck = Some reason.Spent
 reason_by (k ∷ ks) false true = Some reason.Stuck
 reason_by (k ∷ ks) false false = None
 
--- why repair is to rest, if that is told without a look at candidates
+-- why repair is to rest, as far as this is known without a look at candidates
 abbrev pub plain_reason_of : World → Option Reason
 plain_reason_of w = reason_by (conflicts_of w.state) (w.turn == w.options.turns) false
 

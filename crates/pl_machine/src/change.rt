@@ -16,6 +16,6 @@ pub(crate) enum Change {
     Repair(RepairMove),
     /// The activity of an id is known to end at a moment.
     Measure(u32, u32),
-    /// What starts after the present is committed no longer.
+    /// What starts after the present is no longer committed.
     Withdraw,
 }

@@ -36,12 +36,12 @@ use std::sync::Arc;
 #[derive(Drop)]
 pub struct Machine {
     alloc: Global,
-    // The board's, which tells nothing of it once it is spoiled.
+    // The board's model. It is kept here as well, since nothing is said of a spoiled board.
     model: SharedModel,
     board: Board,
     options: Options,
     schedule: Schedule,
-    // How many of those that are due were sent.
+    // How many of the commands that are due were sent.
     sent: usize,
     round: Round,
     done: bool,
@@ -64,7 +64,7 @@ impl std::marker::Model for Machine {
 }
 
 impl Machine {
-    /// A machine over a checked model whose log has the open entry.
+    /// A machine over a checked model. Its log has the open entry alone.
     pub fn fresh(alloc: Global, model: Arc<Model>, options: Options) -> Result<Machine, AllocError>
         requires checked { IsChecked (arc_value model) }
         requires options { AreOptions options }

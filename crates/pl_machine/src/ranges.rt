@@ -1,4 +1,4 @@
-//! Numbers that fit their types, said so.
+//! Numbers handed back as they are, so that contracts can say that they fit their types.
 
 ghost use Rattle.std.specs.Prelude.{◌≡◌, ◌<◌};
 ghost use Rattle.pl_entry.specs.Bounds.{IsWord, IsWordIf, IsConflictInRange};
@@ -31,7 +31,7 @@ fn byte(number: u8) -> u8
     number
 }
 
-/// The conflict, whose numbers fit their types.
+/// The same conflict, of which the contract says that its numbers fit their types.
 pub(crate) fn known_conflict(conflict: &Conflict) -> Conflict
     ensures same { result ≡ conflict.now }
     ensures fits { IsConflictInRange conflict.now }
@@ -46,7 +46,7 @@ pub(crate) fn known_conflict(conflict: &Conflict) -> Conflict
     }
 }
 
-/// The move, whose numbers fit their types.
+/// The same move, of which the contract says that its numbers fit their types.
 pub(crate) fn known_move(repair: &RepairMove) -> RepairMove
     ensures same { result ≡ repair.now }
     ensures fits { FitsTypes repair.now }

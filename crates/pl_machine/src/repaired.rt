@@ -4,8 +4,8 @@ use pl_entry::Reason;
 /// What one turn of repair came to.
 #[derive(Clone, Copy, PartialEq, Eq)]
 pub enum Repaired {
-    /// This was proposed, and made.
+    /// A repair was made, the one that was proposed.
     Fixed(Proposal),
-    /// There was this reason to rest.
+    /// Repair rests, for this reason.
     Rested(Reason),
 }

@@ -42,7 +42,7 @@ impl Round {
         }
     }
 
-    /// The same round behind a repair.
+    /// The same round after one more repair.
     pub(crate) fn repaired(self) -> Round
         requires { self.turn < 4294967295 }
         ensures { result ≡ record self { turn = self.turn + 1; held = false } }

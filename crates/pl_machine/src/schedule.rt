@@ -1,4 +1,4 @@
-//! What is due of a plan, and from when on more of it will be.
+//! Which commands of a plan are due, and from when on more of them may be.
 ghost use Rattle.std.specs.Prelude.{◌≡◌, ◌<◌, ◌^◌, ◌≤◌, [], ◌++◌, false, true, length, drop, IfOk, OnOk, OnErr};
 ghost use Rattle.pl_machine.specs.World.{due_at, due_in};
 ghost use Rattle.pl_machine.specs.Calm.{AreSettled, IsAheadAt, IsAhead};
@@ -10,15 +10,15 @@ use pl_entry::due_since_among;
 use pl_plan::Activity;
 use std::alloc::{AllocError, Global};
 
-/// What is due of the plan of a board, and how far ahead the plan was looked at.
+/// The commands of a board's plan that are due, and what is known of the starts ahead.
 #[derive(Drop)]
 pub(crate) struct Schedule {
-    /// The ids of what is due, in start order.
+    /// The ids of the activities whose commands are due, in start order.
     pub(crate) due: Vec<u32>,
     pub(crate) ahead: Ahead,
 }
 
-/// The activities of a board but for so many at the front of its plan.
+/// The activities of a board's plan, without this many at the front of its list.
 fn behind(board: &Board, settled: usize) -> &[Activity]
     requires { settled ≤ length board.now.state.plan.activities }
     ensures rest { result.now ≡ drop settled board.now.state.plan.activities }
@@ -27,8 +27,8 @@ fn behind(board: &Board, settled: usize) -> &[Activity]
     &board.state().plan.activities()[settled..]
 }
 
-/// The ids of what has come to be due on a board since an earlier moment, in start order. The activities at the
-/// front of the plan that had started for good then are passed over.
+/// The ids of the activities whose commands have come to be due since an earlier moment, in start order. The activities at the
+/// front of the plan's list that were settled then are skipped.
 fn due_since(
     board: &Board,
     alloc: Global,
@@ -51,7 +51,7 @@ fn due_since(
     )
 }
 
-/// Looks ahead on a board, from how far it was looked at at an earlier moment.
+/// What is known of the starts ahead once the plan is gone through again, given what was known at an earlier moment.
 fn ahead_on(board: &Board, before: u32, ahead: Ahead) -> Ahead
     requires later { before ≤ board.now.state.moment }
     requires ahead { IsAheadAt before board.now.state ahead }
@@ -68,7 +68,7 @@ fn ahead_on(board: &Board, before: u32, ahead: Ahead) -> Ahead
 }
 
 impl Schedule {
-    /// Nothing is due yet, and the plan was not looked at.
+    /// Nothing is due yet, and nothing is known of the starts ahead.
     pub(crate) fn new(alloc: Global) -> Schedule
         ensures due { result.due.items ≡ [] }
         ensures next_start { result.ahead.next_start ≡ 0 }
@@ -83,7 +83,7 @@ impl Schedule {
         }
     }
 
-    /// Lists what has come to be due since an earlier moment, and looks ahead again.
+    /// Goes through the plan: lists what has come to be due since an earlier moment, and looks for the next start.
     fn look(&mut self, board: &Board, alloc: Global, before: u32) -> Result<(), AllocError>
         requires unspoiled { board.now.spoiled ≡ false }
         requires later { before ≤ board.now.state.moment }
@@ -99,8 +99,8 @@ impl Schedule {
         Ok(())
     }
 
-    /// Keeps up with a board whose present has moved on from an earlier moment. Where nothing started in between, the
-    /// plan is not looked at. Where memory is wanting the board is spoiled.
+    /// Brings the schedule up to date once the board's present has moved on from an earlier moment. If nothing started in between,
+    /// the plan is not gone through. Want of memory spoils the board.
     pub(crate) fn keep_up(
         &mut self,
         board: &mut Board,

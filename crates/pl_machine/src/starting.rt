@@ -1,4 +1,4 @@
-//! When something starts next, and what has started for good.
+//! When an activity starts next, and which activities are settled.
 ghost use Rattle.std.specs.Prelude.{◌≡◌};
 ghost use Rattle.pl_machine.specs.Calm.{nearer, next_start, is_settled, AreSettled, ahead_after};
 
@@ -6,7 +6,7 @@ use crate::ahead::Ahead;
 use crate::change::Change;
 use pl_plan::Activity;
 
-/// The start, where it lies behind the moment and before the next one.
+/// The start, if it lies after the moment and before the next start that is known so far, else that next start.
 fn nearer(moment: u32, next: u32, start: u32) -> u32
     ensures { result ≡ nearer moment next start }
 {
@@ -17,7 +17,7 @@ fn nearer(moment: u32, next: u32, start: u32) -> u32
     }
 }
 
-/// The least start behind the moment, and the greatest number where nothing starts behind it.
+/// The earliest start after the moment, or the greatest number if nothing starts after it.
 pub(crate) fn next_start(moment: u32, activities: &[Activity]) -> u32
     ensures { result ≡ next_start moment 4294967295 activities.now }
 {
@@ -34,7 +34,7 @@ fn is_settled(moment: u32, c: u32, activity: &Activity) -> bool
     activity.start <= moment && activity.start < c
 }
 
-/// How many activities at the front have started and are committed.
+/// How many activities at the front of the list are settled.
 pub(crate) fn settled_front(moment: u32, c: u32, activities: &[Activity]) -> usize
     ensures { AreSettled moment c result activities.now }
 {
@@ -46,7 +46,7 @@ pub(crate) fn settled_front(moment: u32, c: u32, activities: &[Activity]) -> usi
     activities.len()
 }
 
-/// How far ahead a plan was looked at behind a change of it.
+/// What is still known of the starts ahead after a change of the plan.
 pub(crate) fn ahead_after(change: &Change, ahead: Ahead) -> Ahead
     ensures { result ≡ ahead_after change.now ahead }
 {

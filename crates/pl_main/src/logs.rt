@@ -9,7 +9,7 @@ use pl_journal::write_entries;
 use pl_machine::Machine;
 use std::alloc::Global;
 
-/// Writes the lines of a log from an entry on. For a sink that loses them none is made.
+/// Writes the lines of a log from an entry on. No line is made for a sink that does not keep what it is given.
 #[tactic(auto, using(pl_machine::proofs::ShortLogs::log_is_short))]
 pub fn write_log<O: Sink>(
     alloc: Global,

@@ -39,7 +39,7 @@ fn answer<P: Planner, O: Sink>(
             write_log(alloc, machine, from, out)?;
             Err(Halt::Full)
         }
-        // The log was full when the message came: nothing of it is to be written.
+        // The log was full when the message came, so there is no entry of it to write.
         Err(Stop::LogFull) => Err(Halt::Full),
         Err(_) => Err(Halt::Memory),
     }

@@ -131,7 +131,7 @@ pub fn plan<P: Planner, S: Source, O: Sink>(
     }
 }
 
-/// Plans by the chooser that takes the least repair.
+/// Plans by the chooser `Least`.
 pub fn solo<S: Source, O: Sink>(
     alloc: Global,
     turns: u32,

@@ -22,8 +22,8 @@ pub record KeepsCommitted (old new : PlanState) : Type 0 where
 abbrev pub undropped : Goal → Goal
 undropped g = record g { dropped = false }
 
--- No goal comes or goes, and none changes but that it may be dropped. One that must be served is not dropped, and one that was
--- dropped stays so.
+-- No goal comes or goes, and none changes, except that one may be dropped. A goal that must be served is not dropped, and one that
+-- was dropped stays dropped.
 pub record KeepsGoals (old new : PlanState) : Type 0 where
   pub same : map undropped new.goals ≡ map undropped old.goals
   pub stands : (n : ℕ) (g : Goal) → goal_at old n ≡ Some g → (g.must || g.dropped) ≡ true → goal_at new n ≡ Some g

@@ -7,13 +7,13 @@ use Rattle.pl_board.specs.Boards.{Standing, after}
 use Rattle.pl_moves.specs.declared.move_fault.MoveFault.{MoveFault}
 use Rattle.pl_moves.specs.declared.move_fault.MoveFault.TheVariants.{Refused, Memory}
 
--- A fault, the board before and the board then. A move that is refused has its reason, and nothing changes. Only one that is not
--- refused wants memory, and the board is spoiled then.
+-- Given the fault, the board before and the board then. If the move is refused, the fault is its reason, and nothing changes.
+-- Memory is wanting only for a move that is not refused, and then the board is spoiled.
 abbrev pub Fails : RepairMove → MoveFault → Standing → Standing → Type 0
 Fails m (Refused r) before now = (refusal_of before.state m ≡ Some r) × (now ≡ before)
 Fails m Memory before now = (refusal_of before.state m ≡ None) × (now.spoiled ≡ true)
 
--- the board stands for what the move makes of the state
+-- the board has the plan state that the move makes
 pub record IsMade (m : RepairMove) (before now : Standing) : Type 0 where
   pub allowed : refusal_of before.state m ≡ None
   pub made : now ≡ after (applied before.state m)

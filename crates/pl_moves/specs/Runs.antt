@@ -17,13 +17,13 @@ start_of (Add kind start goal) = start
 start_of (Shift id start) = start
 start_of _ = 0
 
--- whether the other one places what the one does, at another start perhaps
+-- whether the second move places the same activities as the first, maybe at another start
 abbrev pub goes_on : RepairMove → RepairMove → Bool
 goes_on (Add kind start goal) (Add k t g) = (kind == k) && same_number goal g
 goes_on (Shift id start) (Shift i t) = id == i
 goes_on _ _ = false
 
--- how many conflicts a move leaves; the count stands still at its type's end
+-- how many conflicts a move leaves, or the greatest number of the count's type if it leaves more
 abbrev pub counted : PlanState → RepairMove → ℕ
 counted s m = min (left_after s m) 4294967295
 
@@ -39,7 +39,7 @@ pub record IsTrialOf (s : PlanState) (m : RepairMove) (gone : List ℕ) (placed 
   pub leaving_is : leaving ≡ map id_of (placed_by s m)
   pub returning_is : returning ≡ picked s.plan.activities (gone_by s m)
 
--- how many conflicts a move leaves, and each of the first of some others
+-- how many conflicts a move leaves, and how many each of some others leaves, from the first one on
 pub record IsCountOf (s : PlanState) (m : RepairMove) (more : List RepairMove) (one : ℕ) (others : List ℕ) : Type 0 where
   pub alone : one ≡ counted s m
   pub each : others ≡ map (counted s) (take (length others) more)

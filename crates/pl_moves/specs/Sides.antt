@@ -1,4 +1,4 @@
--- On which side of the starts that a repair may give a start can lie.
+-- Starts that no repair may give lie on one of two sides of those that a repair may give.
 use Rattle.std.specs.Prelude.{ℕ, nat_lt, nat_le, ◌≡◌, ◌≤◌, Bool, true, false, List, Option, Some, None, find, length, All}
 use Rattle.std.specs.Option.{option_map}
 use Rattle.pl_model.specs.Schedules.{IsOffset}
@@ -19,15 +19,15 @@ lies_on s PastHorizon start = nat_le s.model.horizon start
 abbrev pub starts_on : PlanState → Side → Activity → Bool
 starts_on s side a = lies_on s side a.start
 
--- it starts there once it is moved along with one that goes from its start to another
+-- it starts on this side once it is shifted by as much as an activity whose start goes from one moment to another
 abbrev pub moves_to : PlanState → Side → ℕ → ℕ → Activity → Bool
 moves_to s side from to a = starts_on s side (moved from to a)
 
--- the id of the first activity that starts there
+-- the id of the first activity that starts on this side
 abbrev pub first_on : PlanState → Side → List Activity → Option ℕ
 first_on s side xs = option_map id_of (find (starts_on s side) xs)
 
--- the id, where it is so
+-- the id, if it is so
 abbrev pub when_so : Bool → ℕ → Option ℕ
 when_so true id = Some id
 when_so false id = None

@@ -14,7 +14,7 @@ use pl_plan::RepairMove;
 use pl_points::{Ledger, Steps};
 use std::alloc::{AllocError, Global};
 
-/// Takes out what a change takes out, and puts in what it places.
+/// Makes a change of a board: takes out the activities that go, and puts in those that come.
 pub fn make_change<L: Ledger>(
     board: &mut Board,
     change: &Change,

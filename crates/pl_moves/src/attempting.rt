@@ -1,4 +1,4 @@
-//! A move that is made, and undone where it leaves too many conflicts.
+//! A move that is made, and undone if it leaves too many conflicts.
 ghost use Rattle.std.specs.Prelude.{◌≡◌, ◌≤◌, false, true, min, OnOk, OnErr, IfOk};
 ghost use Rattle.pl_plan.specs.declared.repair.RepairMove.TheVariants.{Drop};
 ghost use Rattle.pl_semantics.specs.Legal.{left_after};
@@ -17,7 +17,8 @@ use pl_plan::RepairMove;
 use pl_points::{Ledger, Steps};
 use std::alloc::{AllocError, Global};
 
-// Whether so many conflicts are no more than are enough. The count of a type's end tells of no number.
+// Whether so many conflicts are no more than `enough`. If no number is given none are, nor are they if the count has reached the
+// end of its type, since then there may be more.
 fn is_enough(enough: Option<u32>, left: u32) -> bool
     ensures { result ≡ is_enough enough left }
 {
@@ -27,7 +28,7 @@ fn is_enough(enough: Option<u32>, left: u32) -> bool
     }
 }
 
-// Makes the change, and undoes it where it leaves more conflicts than are enough.
+// Makes the change, and undoes it if it leaves more conflicts than `enough`.
 fn attempt_between<L: Ledger>(
     board: &mut Board,
     mv: &RepairMove,
@@ -92,7 +93,8 @@ fn count_dropped(alloc: Global, board: &mut Board, goal: u32) -> Result<u32, All
     }
 }
 
-// A goal is dropped only where that leaves no more conflicts than are enough: they can be counted before.
+// Drops a goal if that leaves no more conflicts than `enough`. These are counted before the goal is dropped, since a drop cannot be
+// undone.
 fn attempt_drop(
     alloc: Global,
     board: &mut Board,
@@ -112,8 +114,8 @@ fn attempt_drop(
     Ok(Attempt::Made)
 }
 
-/// Makes a move. Where it leaves no more conflicts than are enough it stays made, else it is undone. Nothing is enough where there
-/// is no such number. Want of memory spoils the board.
+/// Tries a move. It stays made if it leaves no more conflicts than `enough`, and is undone if it leaves more or if no number is
+/// given. Want of memory spoils the board.
 pub fn attempt<L: Ledger>(
     alloc: Global,
     board: &mut Board,

@@ -5,7 +5,7 @@ pub enum Attempt {
     Made,
     /// It left so many, and was undone.
     Undone {
-        /// How many it left; where there are more than the type holds, the largest that it holds.
+        /// How many it left, or the greatest number of this type if it left more.
         left: u32,
     },
 }

@@ -29,7 +29,7 @@ fn single(alloc: Global, a: Activity) -> Result<Vec<Activity>, AllocError>
     Ok(all)
 }
 
-/// A copy that is moved along with an activity that goes from `from` to `to`.
+/// A copy, shifted by as much as an activity whose start goes from `from` to `to`.
 pub(crate) fn moved(alloc: Global, a: &Activity, from: u32, to: u32) -> Result<Activity, AllocError>
     requires { a.now.start + to < 2 ^ 32 }
     ensures { IfOk result (λ b. b ≡ moved from to a.now) }
@@ -58,7 +58,7 @@ fn with_value(alloc: Global, a: &Activity, number: u8, value: i64) -> Result<Act
     Ok(a)
 }
 
-// A copy; if it is the activity of this id, with the value set.
+// A copy, with the value set if it is the activity of this id.
 fn assigned(
     alloc: Global,
     a: &Activity,
@@ -104,7 +104,7 @@ fn add_moved(
     }
 }
 
-// Those of these ids, moved along with the activity from which they descend.
+// The activities of these ids, shifted by as much as the activity from which they descend.
 fn shift_all(
     alloc: Global,
     s: &PlanState,
@@ -162,7 +162,7 @@ fn add_assigned(
     }
 }
 
-// Those of these ids, with the value set at the top.
+// The activities of these ids, with the value set at the one at the top.
 fn assign_all(
     alloc: Global,
     s: &PlanState,
@@ -181,7 +181,7 @@ fn assign_all(
     Ok(all)
 }
 
-// Those of the subtree, with the value set at its top.
+// The activities of the subtree, with the value set at the one at its top.
 fn assign(
     alloc: Global,
     s: &PlanState,
@@ -282,7 +282,7 @@ fn placed_by(
     }
 }
 
-/// What the move takes out of the plan, and what it puts there.
+/// Which activities the move takes out of the plan, and which it puts in.
 pub(crate) fn change_of(alloc: Global, s: &PlanState, mv: &RepairMove) -> Result<Change, AllocError>
     requires whole { IsWhole s.now }
     requires named { IsNamedLive s.now mv.now }

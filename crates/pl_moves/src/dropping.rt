@@ -10,7 +10,7 @@ use pl_conflict::{Code, Conflict, ConflictSet};
 use pl_facts::Goal;
 use std::alloc::{AllocError, Global};
 
-// What stands while the goal is open and may still be served.
+// The conflict that stands while the goal is open and may still be served.
 fn open_goal(goal: &Goal) -> Conflict
     ensures { result ≡ open_goal goal.now }
 {
@@ -24,7 +24,7 @@ fn open_goal(goal: &Goal) -> Conflict
     }
 }
 
-// How many there are, also where that is more than the set's own count tells.
+// How many conflicts there are, even if there are more than the set itself counts.
 fn exact_count(alloc: Global, all: &ConflictSet) -> Result<usize, AllocError>
     ensures { IfOk result (λ n. n ≡ length all.now) }
 {
@@ -36,7 +36,7 @@ fn exact_count(alloc: Global, all: &ConflictSet) -> Result<usize, AllocError>
     Ok(listed.len())
 }
 
-// How many there are besides this one.
+// How many conflicts there are besides this one.
 fn count_besides(alloc: Global, all: &ConflictSet, one: &Conflict) -> Result<usize, AllocError>
     ensures { IfOk result (λ n. n ≡ (if has one.now all.now then length all.now - 1 else length all.now)) }
 {

@@ -9,7 +9,7 @@ use crate::lookups::alternatives_of_kind;
 use pl_plan::RepairMove;
 use pl_semantics::PlanState;
 
-// A new activity whose kind has alternatives comes with none chosen.
+// One if this kind has alternatives: a new activity comes with none chosen, which is a conflict.
 fn least_of_new(s: &PlanState, kind: u32) -> u32
     ensures { result ≡ (if length (alternatives_of (slice_get s.now.model.kinds kind)) == 0 then 0 else 1) }
 {

@@ -16,7 +16,7 @@ use pl_board::Board;
 use pl_plan::RepairMove;
 use pl_semantics::{PlanState, Refusal};
 
-// The id, where the activity of it is committed.
+// Whether the activity of this id is live and committed.
 fn is_committed_at(s: &PlanState, id: u32) -> bool
     ensures { result ≡ holds (is_committed s.now) (found s.now id) }
 {
@@ -26,7 +26,7 @@ fn is_committed_at(s: &PlanState, id: u32) -> bool
     }
 }
 
-// The id, where its activity is committed.
+// The id, if its activity is live and committed.
 fn committed_one(s: &PlanState, id: u32) -> Option<u32>
     ensures { result ≡ when_so (holds (is_committed s.now) (found s.now id)) id }
 {
@@ -37,7 +37,7 @@ fn committed_one(s: &PlanState, id: u32) -> Option<u32>
     }
 }
 
-// The first of those that the move changes that is committed.
+// The first of the activities that the move changes that is committed.
 fn first_locked(s: &PlanState, mv: &RepairMove) -> Option<u32>
     requires whole { IsWhole s.now }
     requires named { IsNamedLive s.now mv.now }
@@ -80,7 +80,7 @@ fn count_of_new(s: &PlanState, mv: &RepairMove) -> usize
     }
 }
 
-// More would live than may.
+// Whether there would be more activities than there may be.
 fn is_full(s: &PlanState, mv: &RepairMove) -> bool
     requires { IsWhole s.now }
     ensures { result ≡ is_full s.now mv.now }
@@ -108,7 +108,7 @@ pub(crate) fn refusal(s: &PlanState, mv: &RepairMove) -> Option<Refusal>
     }
 }
 
-/// Whether a proper move may be made, and why not.
+/// Whether a proper move may be made, and if not, why it is refused.
 pub fn legal(board: &Board, mv: &RepairMove) -> Result<(), Refusal>
     requires unspoiled { board.now.spoiled ≡ false }
     requires proper { is_proper board.now.state mv.now ≡ true }

@@ -28,8 +28,8 @@ fn lesser(found: Option<u32>, other: Option<u32>) -> Option<u32>
     }
 }
 
-/// The least id of an activity of the subtree that objects. It takes no memory: no id below an activity is less than its own, so what
-/// is below one that objects is not looked at, and one with no alternative chosen has no children.
+/// The least id of an activity of the subtree that objects. No descendant of an activity has a lower id, so the descendants of one
+/// that objects are not looked at. An activity with no alternative chosen has no children. No memory is taken.
 pub(crate) fn first_objecting(s: &PlanState, objection: Objection, top: u32) -> Option<u32>
     requires whole { IsWhole s.now }
     requires live { IsLive top s.now.plan.activities }

@@ -1,7 +1,7 @@
 use crate::side::Side;
 
-/// What may stand against a move that changes an activity: it is committed, or it would start on this side once it is moved along with
-/// one that goes from its start to another.
+/// Why a move that changes an activity may be refused: the activity is committed, or it would start on this side once it is shifted
+/// by as much as an activity whose start goes from `from` to `to`.
 #[derive(Clone, Copy, PartialEq, Eq)]
 pub(crate) enum Objection {
     Committed,

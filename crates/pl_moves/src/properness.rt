@@ -28,14 +28,14 @@ fn is_set(origin: &Origin) -> bool
     }
 }
 
-/// Whether the parameter of this number is neither bound nor dependent.
+/// Whether the parameter of this number is free: neither its parent binds it, nor does it depend on other parameters.
 pub fn is_free(bindings: &[(u8, Expr)], number: u8, param: &Param) -> bool
     ensures { result ≡ is_free bindings.now (number, param.now) }
 {
     is_unbound(bindings, number) && is_set(&param.origin)
 }
 
-// The parameter is free, and the value lies from its low to its high.
+// Whether the parameter is free, and the value lies within its limits.
 fn takes_value(s: &PlanState, a: &Activity, number: u8, value: i64) -> bool
     ensures { result ≡ takes_value s.now a.now number value }
 {
@@ -47,7 +47,7 @@ fn takes_value(s: &PlanState, a: &Activity, number: u8, value: i64) -> bool
     }
 }
 
-// No goal, or an open one of this kind.
+// Whether there is no goal, or an open one of this kind.
 fn is_wanted(s: &PlanState, kind: u32, goal: Option<u32>) -> bool
     ensures { result ≡ is_wanted s.now kind goal }
 {
@@ -87,7 +87,7 @@ fn is_detailed(s: &PlanState, id: u32) -> bool
     }
 }
 
-// No alternative is chosen, and the kind has this one.
+// Whether no alternative is chosen, and the kind has this one.
 fn can_detail(s: &PlanState, id: u32, alternative: u32) -> bool
     ensures { result ≡ holds (λ a. is_none a.detail && nat_lt alternative (length (alternatives_at s.now a))) (found s.now id) }
 {
@@ -112,7 +112,7 @@ fn can_add(s: &PlanState, kind: u32, goal: Option<u32>) -> bool
     (kind as usize) < s.model.get().kinds.len() && is_wanted(s, kind, goal)
 }
 
-/// Whether the move makes sense in this plan state, be it refused or not.
+/// Whether the move makes sense in this plan state, whether it is refused or not.
 #[tactic(auto, unfolding(pl_semantics::specs::Moves::is_proper))]
 pub fn is_proper(s: &PlanState, mv: &RepairMove) -> bool
     ensures { result ≡ is_proper s.now mv.now }

@@ -18,7 +18,7 @@ use pl_plan::{Activity, RepairMove};
 use pl_points::{Ledger, Steps};
 use std::alloc::{AllocError, Global};
 
-/// How many conflicts a move leaves, and how many each of those leaves that go on with it.
+/// How many conflicts a first move leaves, and how many each of some others leaves that place the same activities at other starts.
 #[derive(Drop)]
 pub struct RunCounts {
     pub first: u32,
@@ -36,7 +36,7 @@ pub fn start_of(mv: &RepairMove) -> u32
     }
 }
 
-/// Whether it places what the first one does, at another start perhaps.
+/// Whether a move places the same activities as the first one does, maybe at another start.
 pub fn goes_on(first: &RepairMove, mv: &RepairMove) -> bool
     ensures { result ≡ goes_on first.now mv.now }
 {
@@ -54,7 +54,7 @@ pub fn goes_on(first: &RepairMove, mv: &RepairMove) -> bool
     }
 }
 
-/// How many of the moves go on with what the first one places, from the front.
+/// How many moves at the front of the list place the same activities as the first one does.
 pub fn run_length(first: &RepairMove, moves: &[RepairMove]) -> usize
     ensures few { result ≤ length moves.now }
     ensures alike { All (λ m. goes_on first.now m ≡ true) (take result moves.now) }
@@ -101,7 +101,7 @@ fn note(board: &mut Board, counts: &mut Vec<u32>) -> Result<u32, AllocError>
     }
 }
 
-/// Takes what a move has placed on to another start. Want of memory spoils the board.
+/// Moves what a move has placed from its start to another one, by one change of the board. Want of memory spoils the board.
 pub fn go_on<L: Ledger>(
     alloc: Global,
     board: &mut Board,
@@ -125,8 +125,8 @@ pub fn go_on<L: Ledger>(
     }
 }
 
-// Makes the first move, goes on from each to the next as long as it leaves more conflicts than it must and than are enough, and
-// undoes the last one.
+// Makes the first move, and then each of the others in place of the one before, up to one that leaves no more conflicts than the
+// first must leave, or no more than `enough`. The last one is undone.
 fn count_along<L: Ledger>(
     alloc: Global,
     board: &mut Board,
@@ -168,7 +168,7 @@ fn count_along<L: Ledger>(
     })
 }
 
-// A change of activities, and those that go on with it.
+// The same for a first move that changes activities.
 fn count_run<L: Ledger>(
     alloc: Global,
     board: &mut Board,
@@ -195,7 +195,7 @@ fn count_run<L: Ledger>(
     }
 }
 
-// A move by itself.
+// The same for the first move alone.
 fn count_alone<L: Ledger>(
     alloc: Global,
     board: &mut Board,
@@ -217,9 +217,9 @@ fn count_alone<L: Ledger>(
     })
 }
 
-/// How many conflicts the first move would leave, and then each of those right behind it that place the same at other starts,
-/// up to one that leaves no more than it must, or than are enough. They are made one after another, and undone. Want of memory
-/// spoils the board.
+/// How many conflicts the first move would leave, and how many each of those right after it that place the same activities at other
+/// starts, up to one that leaves no more than the first must leave, or no more than `enough`. Each is made in place of the one
+/// before, and the last is undone. Want of memory spoils the board.
 pub fn left_after_run<L: Ledger>(
     alloc: Global,
     board: &mut Board,

@@ -17,7 +17,7 @@ pub(crate) fn lies_on(s: &PlanState, side: Side, start: u64) -> bool
     }
 }
 
-/// The start of an activity that is moved along with one that goes from `from` to `to`.
+/// The start of an activity once it is shifted by as much as one whose start goes from `from` to `to`.
 pub(crate) fn moved_start(a: &Activity, from: u32, to: u32) -> u64
     ensures { result ≡ (moved from to a.now).start }
 {

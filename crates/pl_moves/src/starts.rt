@@ -16,7 +16,7 @@ use pl_model::{Alternative, Slot};
 use pl_plan::{Activity, RepairMove};
 use pl_semantics::PlanState;
 
-// The first of the subtree that would start there.
+// The first activity of the subtree that would start on this side.
 fn first_shifted(s: &PlanState, id: u32, to: u32, side: Side) -> Option<u32>
     requires whole { IsWhole s.now }
     requires live { IsLive id s.now.plan.activities }
@@ -40,7 +40,7 @@ pub(crate) fn alternative_at<'s>(
     alternatives_in(s.model.get(), a).get(number as usize)
 }
 
-// The first of the new children that would start there.
+// The first of the new children that would start on this side.
 fn first_child(
     s: &PlanState,
     parent: &Activity,
@@ -80,7 +80,7 @@ fn first_added(s: &PlanState, start: u32, side: Side) -> Option<u32>
     }
 }
 
-/// The first of the activities that the move places or shifts that would start there.
+/// The first of the activities that the move adds or shifts that would start on this side.
 pub(crate) fn first_started(s: &PlanState, mv: &RepairMove, side: Side) -> Option<u32>
     requires whole { IsWhole s.now }
     requires named { IsNamedLive s.now mv.now }

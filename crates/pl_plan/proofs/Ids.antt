@@ -1,11 +1,12 @@
 -- Where an id stands among activities of rising ids, and what a search for it finds.
-use Rattle.std.proofs.Common.{◌≡◌, ◌≢◌, ⊎_elim, ℕ, zero, suc, ◌+◌, ◌<◌, ◌≤◌, eqb, ltb, Bool, true, false, List, [], ◌∷◌, length, get_or, take, set, Some, None, Result, Ok, Err, IfOk, IfErr, refl, sym, ap, ◌∙◌, subst, arith}
-use Rattle.std.specs.List.{All, insert, remove}
+use Rattle.std.proofs.Common.{◌≡◌, ◌≢◌, ⊎_elim, ℕ, zero, suc, ◌+◌, ◌-◌, ◌<◌, ◌≤◌, eqb, ltb, Bool, true, false, List, [], ◌∷◌, length, get_or, take, set, Some, None, Result, Ok, Err, IfOk, IfErr, refl, sym, ap, ◌∙◌, subst, arith}
+use Rattle.std.specs.List.{All, insert, remove, slice_get}
 use Rattle.std.specs.List.Sorted.{IsSearchInRange, IsBinarySearchResult, IsNonDecreasingBy}
 use Rattle.std.specs.Ordering.{nat_cmp, ordering_index}
 use Rattle.std.proofs.lemmas.Cmp.{ranked}
 use Rattle.std.proofs.lemmas.Bool.{cases_lt, eq-eqb, ne_eqb, lt-ltb, le-ltb, ltb-true, ltb-false, eqb-true, eqb-false}
 use Rattle.std.proofs.lemmas.Bool.Decides.{nat_tests}
+use Rattle.std.proofs.lemmas.Option.{slice_get_within, slice_get-get_or, get_or_from_slice_get}
 use Rattle.pl_lists.proofs.Listing as listing
 use Rattle.pl_plan.specs.declared.activity.Activity.{Activity}
 use Rattle.pl_plan.specs.Activities.{RiseFrom, AreRising, activity_of, placed, without, exchanged}
@@ -99,41 +100,67 @@ no_activity : Activity
 no_activity = record { id = 0; kind = 0; start = 0; parent = None; goal = None; detail = None; set = []; measured = None }
 
 module _ (xs : List Activity) (rising : AreRising xs) (id : ℕ) where
+  up_to : (i j : ℕ) (d : Activity) → i ≤ j → j < length xs → (get_or xs i d).id ≤ (get_or xs j d).id
+  up_to i j d le in_range = grind (arith, rises_between xs 0 i j d rising, λ (same : i ≡ j). ap (λ n. (get_or xs n d).id) same)
+
   comparisons_rise : IsNonDecreasingBy (λ a. ordering_index (nat_cmp a.id id)) xs
   comparisons_rise i j d le in_range =
-      let ids_rise : (get_or xs i d).id ≤ (get_or xs j d).id = grind (arith, rises_between xs 0 i j d rising, λ (same : i ≡ j). ap (λ n. (get_or xs n d).id) same) in
+      let ids_rise : (get_or xs i d).id ≤ (get_or xs j d).id = up_to i j d le in_range in
       grind (arith, nat_tests)
 
+  found_place : (at : ℕ) → at < length xs → ((d : Activity) → (get_or xs at d).id ≡ id) → IsPlaceOf id xs at
+  found_place at in_range is = record {
+    in_range = in_range;
+    here = λ d. found_at xs 0 at id d rising in_range (is d);
+    present = λ all. let d = no_activity in all at d in_range (is d);
+    is = is;
+    taken = let d = no_activity in taken_at xs 0 at id d rising in_range (is d);
+    changed = λ a same. let d = no_activity in changed_at a xs 0 at d rising in_range (is d ∙ sym same);
+  }
+
+  found_gap : (at : ℕ) → IsGap id xs at → IsGapFor id xs at
+  found_gap at gap = record {
+    in_range = gap.in_range;
+    none = none_in_gap id xs at gap;
+    absent = absent_in_gap id xs at gap;
+    same = without_none id xs (none_in_gap id xs at gap);
+    put = put_in_gap id xs at gap;
+  }
+
   pub searched : (r : Result ℕ ℕ) → IsSearchInRange r (length xs) → IsBinarySearchResult (λ a. nat_cmp a.id id) xs r → record { found : IfOk r (IsPlaceOf id xs); absent : IfErr r (IsGapFor id xs) }
-  searched (Ok at) in_range equal =
-      let is : (d : Activity) → (get_or xs at d).id ≡ id = λ d. ranked _ id _ (sym (equal d)) in
-      record {
-        found = record {
-          in_range = in_range;
-          here = λ d. found_at xs 0 at id d rising in_range (is d);
-          present = λ all. let d = no_activity in all at d in_range (is d);
-          is = is;
-          taken = let d = no_activity in taken_at xs 0 at id d rising in_range (is d);
-          changed = λ a same. let d = no_activity in changed_at a xs 0 at d rising in_range (is d ∙ sym same);
-        };
-        absent = tt;
-      }
-  searched (Err at) in_range parted =
-      let gap : IsGap id xs at = record {
-        in_range = in_range;
-        before = λ k d lt. ranked _ id _ (sym ((parted comparisons_rise).0 k d (omega arith) lt));
-        behind = λ k d le lt. ranked _ id _ (sym ((parted comparisons_rise).1 k d le lt));
-      } in
-      record {
-        found = tt;
-        absent = record {
-          in_range = in_range;
-          none = none_in_gap id xs at gap;
-          absent = absent_in_gap id xs at gap;
-          same = without_none id xs (none_in_gap id xs at gap);
-          put = put_in_gap id xs at gap;
-        };
-      }
+  searched (Ok at) in_range equal = record { found = found_place at in_range (λ d. ranked _ id _ (sym (equal d))); absent = tt }
+  searched (Err at) in_range parted = record {
+    found = tt;
+    absent = found_gap at (record {
+      in_range = in_range;
+      before = λ k d lt. ranked _ id _ (sym ((parted comparisons_rise).0 k d (omega arith) lt));
+      behind = λ k d le lt. ranked _ id _ (sym ((parted comparisons_rise).1 k d le lt));
+    });
+  }
+
+  -- what was guessed is right
+  pub guessed : (at : ℕ) (a : Activity) → slice_get xs at ≡ Some a → a.id ≡ id → IsPlaceOf id xs at
+  guessed at a here same = found_place at (slice_get_within xs at a here) (λ d. ap (λ (b : Activity). b.id) (get_or_from_slice_get xs at a d here) ∙ same)
+
+  -- an id above the last one
+  pub above_last : (a : Activity) → slice_get xs (length xs - 1) ≡ Some a → a.id < id → IsGapFor id xs (length xs)
+  above_last a here less = found_gap (length xs) (record {
+    in_range = omega arith;
+    before = λ k d lt.
+        let last : (get_or xs (length xs - 1) d).id ≡ a.id = ap (λ (b : Activity). b.id) (get_or_from_slice_get xs (length xs - 1) a d here) in
+        omega (arith, up_to k (length xs - 1) d (omega (arith, lt)) (omega (arith, lt)), last, less);
+    behind = λ k d le lt. absurd (omega (arith, le, lt));
+  })
+
+  -- any id, where there is no activity
+  pub above_none : slice_get xs (length xs - 1) ≡ None → IsGapFor id xs (length xs)
+  above_none none = found_gap (length xs) (record {
+    in_range = omega arith;
+    before = λ k d lt.
+        let there : slice_get xs (length xs - 1) ≡ Some (get_or xs (length xs - 1) d) = slice_get-get_or xs (length xs - 1) d (omega (arith, lt)) in
+        absurd (cc);
+    behind = λ k d le lt. absurd (omega (arith, le, lt));
+  })
 
 pub rising-without : (id c : ℕ) (xs : List Activity) → RiseFrom c xs → RiseFrom c (without id xs)
 rising-without id c xs rising = listing.rising-without (λ a. a.id) (λ a. eqb a.id id) c xs rising

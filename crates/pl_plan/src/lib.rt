@@ -13,6 +13,7 @@ mod laws;
 mod plan;
 mod repair;
 mod row;
+mod searching;
 mod settling;
 mod sharing;
 mod trees;

@@ -8,6 +8,7 @@ ghost use Rattle.pl_plan.specs.Places.{IsPlaceOf, IsGapFor};
 use crate::activity::Activity;
 use crate::counts::{Counts, served_goal};
 use crate::families::Families;
+use crate::searching::search;
 use pl_lists::Copied;
 use std::alloc::{AllocError, Global};
 use std::marker::Model;
@@ -191,7 +192,7 @@ impl Plan {
         ensures found { IfOk result (IsPlaceOf id self.now.activities) }
         ensures absent { IfErr result (IsGapFor id self.now.activities) }
     {
-        self.activities.binary_search_by_key(&id, |a| a.id)
+        search(&self.activities, id)
     }
 }
 

@@ -1,4 +1,4 @@
-//! One search by layers: of each layer the plans of the least prices go on.
+//! One search by layers: the next layer has the plans that one more repair makes of the plans of this layer with the lowest prices.
 ghost use Rattle.std.specs.Prelude.{◌≡◌, false, OnOk};
 
 use crate::branching::GivingUp;
@@ -12,7 +12,7 @@ use std::alloc::{AllocError, Global};
 /// What is looked for.
 #[derive(Clone, Copy)]
 pub(crate) struct Aim {
-    /// So few conflicts but open goals are enough.
+    /// A plan is good enough if at most so many conflicts stand, open goals not counted.
     pub(crate) enough: u32,
     /// The most repairs on the way.
     pub(crate) repairs: usize,
@@ -21,12 +21,12 @@ pub(crate) struct Aim {
     pub(crate) worlds: u32,
 }
 
-/// How it is looked for.
+/// How wide a search is.
 #[derive(Clone, Copy)]
 pub(crate) struct Shape {
-    /// So many plans of a layer go on.
+    /// From how many plans of a layer it goes on.
     pub(crate) width: usize,
-    /// Of so many conflicts of each the repairs are tried.
+    /// Of how many conflicts of each plan the repairs are tried.
     pub(crate) conflicts: u32,
     /// Whether conflicts cost more where they last longer.
     pub(crate) lengths: bool,
@@ -37,11 +37,11 @@ pub(crate) struct Shape {
 pub(crate) enum Ended {
     /// A plan with few enough conflicts.
     Found(Node),
-    /// None of these; the best of those that were looked at.
+    /// No such plan: the best of those that were looked at, if there was any.
     Best(Option<Node>),
 }
 
-/// So many layers in a row may be no better before a search is given up.
+/// How many layers in a row may bring nothing better before a search is given up.
 const PATIENCE: u32 = 12;
 
 // A layer of plans, in the order of their prices, or one among them that is good enough.
@@ -84,7 +84,7 @@ fn first_layer(
     Ok(Layer::Going(going))
 }
 
-// The layer behind the steps that were found.
+// The layer of the plans that the steps lead to.
 fn layer_of_steps(
     tries: &Tries,
     nodes: &[Node],
@@ -224,7 +224,7 @@ fn see_all(tries: &mut Tries, from: &[Node]) -> Result<(), AllocError> {
     Ok(())
 }
 
-// Goes on by layers behind these plans while more than so many may still be looked at.
+// Goes on from these plans, layer by layer, while more than `stop` plans may still be looked at.
 fn go_on_by_layers(
     tries: &mut Tries,
     board: &mut Board,
@@ -251,7 +251,7 @@ fn go_on_by_layers(
     Ok(Ended::Best(progress.into_best()))
 }
 
-/// Goes on by layers until a plan is good enough, or there is no hope.
+/// Searches layer by layer until a plan is good enough, or until the search is given up.
 pub(crate) fn search_by_layers(
     tries: &mut Tries,
     board: &mut Board,

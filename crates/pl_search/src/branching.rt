@@ -17,7 +17,8 @@ pub(crate) enum GivingUp {
     AllBut(u32),
 }
 
-// Whether the conflict is one of an activity that is not complete. Until it is, the others tell little.
+// Whether the conflict is one of an activity that is not complete. Such an activity does not ask for all that it will ask for, so
+// until it is complete the other conflicts say little about the plan.
 fn is_of_structure(conflict: &Conflict) -> bool {
     matches!(
         conflict.code,
@@ -48,7 +49,8 @@ pub(crate) fn hard_conflicts(
     Ok(hard)
 }
 
-/// The conflicts that may be mended next, in order: the first of an activity that is not complete, or else all but open goals.
+/// The conflicts that may be mended next, in order: the first one of an activity that is not complete. If there is none, all but
+/// open goals.
 pub(crate) fn to_mend(alloc: Global, all: &ConflictSet) -> Result<Vec<Conflict>, AllocError> {
     match first_of_structure(all) {
         Some(conflict) => {
@@ -84,7 +86,7 @@ fn may_lose(goal: u32, giving_up: GivingUp) -> bool {
     }
 }
 
-/// Whether a move leaves the goals served that are to stay so.
+/// Whether a move leaves those goals served that may not be given up.
 pub(crate) fn spares(board: &Board, mv: &RepairMove, giving_up: GivingUp) -> bool {
     match lost_goal(board, mv) {
         None => true,

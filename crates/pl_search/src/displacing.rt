@@ -1,4 +1,4 @@
-//! Goals that found no way are tried again, others giving way.
+//! Goals for which no way was found are tried again, and other goals may give way to them.
 ghost use Rattle.std.specs.Prelude.{◌≡◌, false, OnOk};
 
 use crate::branching::GivingUp;
@@ -11,7 +11,7 @@ use pl_board::Board;
 use pl_conflict::Conflict;
 use std::alloc::{AllocError, Global};
 
-// The open goals of a plan that are served in another one. Those that are open in both found no way before.
+// The goals that are open in this plan and were served before.
 fn displaced(alloc: Global, plan: &Board, before: &Board) -> Result<Vec<Conflict>, AllocError>
     requires { plan.now.spoiled ≡ false }
 {
@@ -25,7 +25,7 @@ fn displaced(alloc: Global, plan: &Board, before: &Board) -> Result<Vec<Conflict
     Ok(goals)
 }
 
-// Makes some repairs of a plan, and serves as many of the goals as can be that gave way by them.
+// Makes some repairs of a plan. Then serves as many as it can of the goals that gave way by these.
 fn serve_again(
     tries: &mut Tries,
     failures: &Failures,
@@ -69,7 +69,7 @@ fn serve_and_take(
     Ok(())
 }
 
-// Takes the way, and goes on with what comes of it where more goals are served then.
+// Makes these repairs on a copy of the plan, and goes on with the copy if more goals are served there.
 fn try_way(
     tries: &mut Tries,
     failures: &Failures,
@@ -83,7 +83,7 @@ fn try_way(
     serve_and_take(tries, failures, draft, &mut other, way)
 }
 
-// Serves the goal of a conflict where others give way, if more goals are served then.
+// Serves the goal of a conflict while others may give way, if more goals are served then.
 fn displace_for(
     tries: &mut Tries,
     failures: &Failures,
@@ -100,7 +100,7 @@ fn displace_for(
     }
 }
 
-/// Tries each of these goals again. What comes of it is kept where more goals are served then.
+/// Tries each of these goals again, and keeps the plan that comes of it if more goals are served there.
 pub(crate) fn displace(
     tries: &mut Tries,
     failures: &Failures,

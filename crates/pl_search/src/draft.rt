@@ -109,7 +109,7 @@ impl Draft {
         }
     }
 
-    // Looks for repairs after which no more than so many conflicts stand beside open goals.
+    // Looks for repairs after which at most so many conflicts stand, open goals not counted.
     fn way_to_mend(
         &mut self,
         tries: &mut Tries,
@@ -139,7 +139,8 @@ impl Draft {
         self.follow_best(alloc, best)
     }
 
-    // The same where any goal may be given up, and else the best that was found.
+    // Looks for such repairs that may give up any goal, and makes them. If there are none, makes those that lead to the best plan
+    // found.
     fn mend_at_any_price(
         &mut self,
         tries: &mut Tries,
@@ -155,7 +156,8 @@ impl Draft {
         }
     }
 
-    /// Mends all but open goals and what is hopeless, or as much as can be. A goal is given up only where nothing else helps.
+    /// Mends all conflicts but open goals and those that no repair can mend, or as many as it can. A goal is given up only if
+    /// nothing else helps.
     pub(crate) fn mend_all(&mut self, tries: &mut Tries) -> Result<(), AllocError>
         requires { self.old.board.spoiled ≡ false }
         ensures { OnOk result (self.new.board.spoiled ≡ false) }

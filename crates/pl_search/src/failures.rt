@@ -6,9 +6,10 @@ use std::collections::BTreeMap;
 /// The least number of plans that are looked at for a goal in one search.
 const LEAST_WORLDS: u32 = 50;
 
-/// A goal is tried in each plan until so many left it open, and then in one of so many.
+/// A goal is tried in each plan until so many plans have left it open.
 const EAGER: u32 = 3;
 
+/// After that it is tried if the number of plans that left it open is a multiple of this.
 const PAUSE: u32 = 4;
 
 /// How many plans of messages left goals open, by the numbers of the goals.

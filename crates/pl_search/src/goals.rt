@@ -7,7 +7,7 @@ use pl_conflict::Conflict;
 use pl_facts::Goal;
 use std::alloc::{AllocError, Global};
 
-/// More than any window is wide.
+/// A number greater than the width of any window.
 const BEHIND: u64 = 1_000_000_000_000;
 
 /// The conflict of an open goal, and its place in the order.

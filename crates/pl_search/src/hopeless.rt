@@ -21,7 +21,7 @@ fn has_repair(alloc: Global, board: &Board, conflict: &Conflict) -> Result<bool,
     Ok(false)
 }
 
-/// How many conflicts but open goals have no repair that may be made.
+/// How many conflicts have no repair that may be made, open goals not counted.
 pub(crate) fn count_hopeless(alloc: Global, board: &Board) -> Result<u32, AllocError>
     requires { board.now.spoiled ≡ false }
 {

@@ -1,4 +1,4 @@
-//! A root for a goal, and what mends all that this brings.
+//! A root for a goal, and the repairs of the conflicts that it brings.
 ghost use Rattle.std.specs.Prelude.{◌≡◌, false, OnOk};
 
 use crate::beam::{Aim, Ended};
@@ -36,7 +36,7 @@ fn additions(
     Ok(roots)
 }
 
-// The plans behind the steps that were found from one plan.
+// The plans that the steps from one plan lead to.
 fn nodes_of_steps(tries: &Tries, look: Look) -> Result<Vec<Node>, AllocError> {
     let start = Node::start(tries.alloc, look);
     let mut nodes = Vec::new(tries.alloc);
@@ -54,7 +54,7 @@ fn has_enough(tries: &Tries, enough: u32) -> bool {
         .any(|step| step.look.hard <= enough)
 }
 
-// Tries roots for the goal of a conflict: the first alone, since it often is good enough, and else the others.
+// Tries roots for the goal of a conflict: first the first one alone, since it often is good enough, and if it is not, the others.
 fn try_roots(
     tries: &mut Tries,
     board: &mut Board,

@@ -28,12 +28,12 @@ pub struct Insertion {
     path: Vec<Proposal>,
     tries: Tries,
     failures: Failures,
-    /// How many plans are kept for turns that its plan leaves.
+    /// How many plans may be looked at besides, in turns that its plan leaves unused.
     spare: u32,
 }
 
 impl Insertion {
-    /// A chooser for rounds of so many repairs, which looks at most at so many plans for a message.
+    /// A chooser for rounds of so many repairs. It looks at no more than `worlds` plans for a message.
     pub fn new(alloc: Global, turns: u32, worlds: u32) -> Insertion {
         Insertion {
             turns,
@@ -98,7 +98,7 @@ impl Insertion {
         self.next(alloc, board)
     }
 
-    // The next repair of the plan, which is made anew where there is none yet or its next repair may not be proposed.
+    // The next repair of the plan. If there is no plan yet, or its next repair may not be proposed, a new plan is made first.
     fn planned(&mut self, alloc: Global, board: &Board) -> Result<Option<Proposal>, AllocError>
         requires { board.now.spoiled ≡ false }
         ensures { IfOk result (λ o. IfSome o (λ p. IsProposal board.now.state (Some p))) }
@@ -111,7 +111,7 @@ impl Insertion {
         }
     }
 
-    // A repair for a turn that the plan leaves.
+    // A repair for a turn that the plan leaves unused.
     fn left_over(
         &mut self,
         alloc: Global,
@@ -130,7 +130,7 @@ impl Insertion {
         }
     }
 
-    // What is found, if anything is.
+    // What the plan proposes, or a repair for a turn that it leaves unused, if there is either.
     fn look_ahead(
         &mut self,
         alloc: Global,
@@ -147,7 +147,7 @@ impl Insertion {
         }
     }
 
-    // What is found, or else what the least chooser proposes.
+    // The same, or else what `Least` proposes.
     fn find_or_least(
         &mut self,
         alloc: Global,
@@ -170,7 +170,7 @@ impl Insertion {
     }
 }
 
-// How many plans one search by layers may look at, of so many for a message.
+// How many plans one search by layers may look at, given how many all searches for a message may.
 fn worlds_for_one(worlds: u32) -> u32 {
     worlds.saturating_mul(3) / 20
 }

@@ -1,4 +1,4 @@
-//! What is done with turns that are left when a plan is made and conflicts still stand.
+//! What is done with the turns of a round that are left once a plan is made, if conflicts still stand.
 ghost use Rattle.std.specs.Prelude.{◌≡◌, false, OnOk};
 
 use crate::branching::{GivingUp, hard_conflicts};
@@ -17,13 +17,13 @@ use pl_conflict::Conflict;
 use pl_plan::RepairMove;
 use std::alloc::{AllocError, Global};
 
-/// Of so many conflicts the repairs are tried.
+/// Of how many conflicts the repairs are tried.
 const CONFLICTS: u32 = 4;
 
 /// What it costs that a goal is not served.
 const OPEN_GOAL: u64 = 10;
 
-/// What it costs besides that one is no longer served, in a turn in which other repairs are wanted.
+/// What a repair costs in addition if by it a goal is no longer served, in a turn in which other repairs are to come first.
 const NOT_YET: u64 = 1000;
 
 fn must_be_served(board: &Board, goal: u32) -> bool {
@@ -33,7 +33,7 @@ fn must_be_served(board: &Board, goal: u32) -> bool {
     }
 }
 
-// That the first goal is dropped that need not be served.
+// The drop of the first goal that need not be served.
 fn first_drop(board: &Board, goals: &[Conflict]) -> Option<Proposal> {
     for conflict in goals {
         if !must_be_served(board, conflict.subject) {
@@ -59,8 +59,8 @@ fn count_musts(board: &Board, goals: &[Conflict]) -> usize {
     count
 }
 
-// Whether a drop can wait. A root that comes takes two turns, its own and the one in which it goes again. So where such roots are
-// to follow and an odd number of turns is left, a drop makes that number even. The last drop is kept for this.
+// Whether the drop can wait. Where goals that must be served stay open, a root is added in one turn and deleted in the next, so the
+// rest of the turns has to be even. The last drop is kept to make an odd rest even.
 fn can_wait(board: &Board, goals: &[Conflict], left: u32) -> bool {
     let musts = count_musts(board, goals);
     let drops = goals.len().saturating_sub(musts);
@@ -80,7 +80,7 @@ fn last_addition(board: &Board, moves: &[RepairMove]) -> Option<RepairMove>
     last
 }
 
-// A root for the last of these goals that may have one, at its last start. It goes again in the next turn.
+// A root for the last of these goals that may have one, at its last start. It is deleted again in the next turn.
 fn late_root(
     alloc: Global,
     board: &Board,
@@ -110,14 +110,14 @@ fn drop_now(board: &Board, goals: &[Conflict], left: u32) -> Option<Proposal> {
     }
 }
 
-// Where only goals are open: one that need not be served is dropped; else a root comes, and goes again.
+// Where all conflicts are open goals: drops one that need not be served, else adds a root, which is deleted again in the next turn.
 fn pass_time(tries: &mut Tries, board: &Board, left: u32) -> Result<Option<Proposal>, AllocError>
     requires { board.now.spoiled ≡ false }
 {
     let goals = board.conflicts().list(tries.alloc)?;
     match drop_now(board, goals.as_slice(), left) {
         Some(drop) => {
-            // a plan without the goal has fewer conflicts than what was seen of it
+            // A plan without this goal has fewer conflicts than were counted of it before.
             tries.forget_looks();
             Ok(Some(drop))
         }
@@ -125,7 +125,7 @@ fn pass_time(tries: &mut Tries, board: &Board, left: u32) -> Result<Option<Propo
     }
 }
 
-// What a repair costs. With an even number of turns left another one than the loss of a goal is wanted.
+// What a repair costs. While an even number of turns is left, other repairs come before one by which a goal is no longer served.
 fn cost_of(step: &Step, before: &Look, left: u32) -> u64 {
     let open = u64::from(step.look.unserved) * OPEN_GOAL;
     let wait = if left % 2 == 0 && step.look.unserved > before.unserved {
@@ -223,7 +223,8 @@ fn choose_cheapest(
     Ok(repair)
 }
 
-// The repair of a conflict but open goals that was chosen before, or else the cheapest one of one of the first.
+// A repair of a conflict that is no open goal: the one that was chosen before for such a plan and turn, or else the cheapest repair
+// of one of the first such conflicts.
 fn repair_of_hard(
     tries: &mut Tries,
     board: &mut Board,
@@ -241,7 +242,7 @@ fn repair_of_hard(
     }
 }
 
-/// A repair for one of so many turns that are left.
+/// A repair for the next of the turns that are left (`left`).
 pub(crate) fn leftover_repair(
     tries: &mut Tries,
     board: &mut Board,

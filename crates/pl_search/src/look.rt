@@ -10,18 +10,18 @@ pub(crate) struct Look {
     pub(crate) unserved: u32,
     /// How many other conflicts stand.
     pub(crate) hard: u32,
-    /// What the lengths of conflicts count for.
+    /// What the lengths of the conflicts add to the price.
     pub(crate) lasting: u64,
     /// How many activities are live.
     pub(crate) activities: u32,
-    /// The mark of the plan, which hangs on its activities and not on their ids.
+    /// The mark of the plan, which depends on its activities but not on their ids.
     pub(crate) mark: u64,
 }
 
-/// The most that the length of one conflict counts for.
+/// The most that the length of one conflict adds to the price.
 const MOST_LASTING: u64 = 40;
 
-/// The length that counts for half of the most.
+/// The length that adds half of this.
 const HALF_LENGTH: u64 = 20;
 
 /// Whether a conflict is an open goal. A search serves goals one by one, so none of these is to be mended.
@@ -29,13 +29,13 @@ pub(crate) fn is_open_goal(conflict: &Conflict) -> bool {
     conflict.code == Code::OpenGoal
 }
 
-// What so many moments count for: ever less for each more.
+// What a length of so many moments adds to the price: each further moment adds less.
 fn count_for(moments: u32) -> u64 {
     let moments = u64::from(moments);
     MOST_LASTING * moments / (moments + HALF_LENGTH)
 }
 
-// What the length of a conflict counts for. Those of activities and goals have none.
+// What the length of a conflict adds to the price. Conflicts of activities and goals have no length.
 fn lasting_of(conflict: &Conflict) -> u64 {
     match conflict.code {
         Code::Over | Code::Low | Code::High | Code::Must => {

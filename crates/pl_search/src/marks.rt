@@ -3,7 +3,7 @@
 use pl_moves::Trial;
 use pl_plan::{Activity, Plan};
 
-// Two odd numbers that look like noise.
+// Two odd numbers whose bits look random.
 const STEP: u64 = 0x9e37_79b9_7f4a_7c15;
 
 const NOISE: u64 = 0xbf58_476d_1ce4_e5b9;
@@ -15,7 +15,7 @@ fn mixed(number: u64) -> u64 {
     twice ^ (twice >> 31)
 }
 
-/// The mark of what has a mark and a number behind that.
+/// The mark of something that has this mark so far, once this number is added to it.
 pub(crate) fn mark_then(mark: u64, number: u64) -> u64 {
     mixed(mark.wrapping_add(STEP) ^ number)
 }
@@ -43,7 +43,7 @@ fn slot_of(a: &Activity) -> Option<u32> {
     }
 }
 
-// The mark of an activity, which does not hang on its id.
+// The mark of an activity, which does not depend on its id.
 fn mark_of(a: &Activity) -> u64 {
     let mut mark = mark_then(u64::from(a.kind), u64::from(a.start));
     mark = mark_then(mark, number_of(a.goal));

@@ -36,7 +36,7 @@ fn shape_of(number: u32) -> Shape {
     }
 }
 
-// What plans are compared by: conflicts but open goals, then open goals, then their prices.
+// What plans are compared by: how many conflicts stand that are no open goals, then how many goals are open, then their prices.
 fn rank_of(node: &Node) -> (u32, u32, u64) {
     (node.look.hard, node.look.unserved, node.price(false))
 }
@@ -59,7 +59,7 @@ pub(crate) fn keep_better(best: &mut Option<Node>, other: Option<Node>) {
     }
 }
 
-/// Looks for a plan with few enough conflicts behind one of these.
+/// Looks for a plan with few enough conflicts that one of these plans can be made into.
 pub(crate) fn mend(
     tries: &mut Tries,
     board: &mut Board,

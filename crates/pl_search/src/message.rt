@@ -1,4 +1,4 @@
-//! By what a chooser knows that a message came since it was asked last.
+//! How a chooser knows that a message came since it was asked last.
 ghost use Rattle.std.specs.Prelude.{◌≡◌, ◌≤◌, ◌^◌, ◌<◌, Some, false, slice_get};
 ghost use Rattle.pl_semantics.specs.Whole.{IsWhole};
 
@@ -8,7 +8,7 @@ use pl_model::Timeline;
 use pl_plan::Activity;
 use pl_semantics::PlanState;
 
-/// What no repair changes.
+/// Parts of a plan state that no repair changes. As long as none of them differs, the message is taken to be the same.
 #[derive(Clone, Copy, PartialEq, Eq)]
 pub(crate) struct Message {
     moment: u32,
@@ -57,7 +57,7 @@ fn mark_of_ends(activities: &[Activity]) -> u64 {
     mark
 }
 
-/// The last message that a board shows.
+/// These parts of a board's plan state.
 pub(crate) fn message_of(board: &Board) -> Message
     requires { board.now.spoiled ≡ false }
 {

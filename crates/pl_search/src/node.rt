@@ -5,14 +5,14 @@ use crate::price::price_of;
 use pl_cand::Proposal;
 use std::alloc::{AllocError, Global};
 
-/// A plan that was come to: by which repairs, and what was seen of it.
+/// A plan that the search came to: by which repairs, and what was seen of it.
 #[derive(Drop)]
 pub(crate) struct Node {
     pub(crate) path: Vec<Proposal>,
     pub(crate) look: Look,
 }
 
-/// One more repair of the plan at a place of a layer, and what was seen of what it makes.
+/// One more repair of the plan at a place of a layer, and what was seen of the plan that it leads to.
 #[derive(Clone, Copy)]
 pub(crate) struct Step {
     pub(crate) from: usize,
@@ -21,7 +21,7 @@ pub(crate) struct Step {
 }
 
 impl Step {
-    /// The same repair, of what makes a plan of this mark.
+    /// The same repair, which leads to a plan of this mark.
     pub(crate) fn with_mark(self, mark: u64) -> Step {
         let before = self.look;
         Step {
@@ -52,7 +52,7 @@ impl Node {
         price_of(&self.look, self.path.len(), lengths)
     }
 
-    /// The plan behind one more repair.
+    /// The plan after one more repair.
     pub(crate) fn behind(&self, alloc: Global, step: &Step) -> Result<Node, AllocError> {
         let mut path = Vec::from_slice(alloc, self.path.as_slice())?;
         path.push(step.repair)?;

@@ -1,4 +1,4 @@
-//! The plan of a message: what stands is mended, and then goals are served one by one.
+//! The plan for a message: the conflicts that stand are mended, and then the open goals are served one by one.
 ghost use Rattle.std.specs.Prelude.{◌≡◌, false};
 
 use crate::displacing::displace;
@@ -38,7 +38,8 @@ fn work_out(
     Ok(path)
 }
 
-/// The repairs that lead to the plan of a message, the last first, and at most so many.
+/// The repairs that lead to the plan for a message, the last first: at most `turns`. At most `worlds` plans are looked at in one
+/// search by layers.
 pub(crate) fn plan(
     tries: &mut Tries,
     failures: &mut Failures,
@@ -48,7 +49,7 @@ pub(crate) fn plan(
 ) -> Result<Vec<Proposal>, AllocError>
     requires { board.now.spoiled ≡ false }
 {
-    // A draft is let go in one place alone: wherever it is, a proof goes through all that its board holds.
+    // A draft is dropped in this function alone, since each place that drops one costs a proof over all that its board holds.
     let mut draft = Draft::new(tries.alloc, board, turns, worlds)?;
     work_out(tries, failures, &mut draft)
 }

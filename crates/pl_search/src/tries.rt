@@ -20,7 +20,7 @@ pub(crate) struct Tries {
     pub(crate) left: u32,
     // What was seen of plans, by their marks.
     known: BTreeMap<u64, Look>,
-    // Where the repairs stand that were chosen in turns left over, by the marks of plan and turn.
+    // Which repairs were chosen in turns left over, each by its place, by the marks of plan and turn.
     chosen: BTreeMap<u64, Place>,
     // The marks that the search at hand has come to.
     seen: BTreeSet<u64>,
@@ -49,13 +49,13 @@ impl Tries {
         self.forget_looks();
     }
 
-    /// Forgets what was seen of plans, and what was chosen by that.
+    /// Forgets what was seen of plans, and the repairs that were chosen by it.
     pub(crate) fn forget_looks(&mut self) {
         self.known = BTreeMap::new(self.alloc);
         self.chosen = BTreeMap::new(self.alloc);
     }
 
-    /// Where the repair stands that was chosen for a plan and turn of this mark.
+    /// The place of the repair that was chosen for a plan and turn of this mark.
     pub(crate) fn chosen(&self, mark: u64) -> Option<Place> {
         match self.chosen.get(&mark) {
             Some(place) => Some(*place),
@@ -63,7 +63,7 @@ impl Tries {
         }
     }
 
-    /// Keeps where a repair stands that was chosen, if it is known.
+    /// Keeps the place of a repair that was chosen, if it is known.
     pub(crate) fn choose(&mut self, mark: u64, place: Option<Place>) -> Result<(), AllocError> {
         if let Some(place) = place {
             self.chosen.insert(mark, place)?;
@@ -123,7 +123,7 @@ impl Tries {
         }
     }
 
-    /// Notes what a repair leads to that may be made; the moves that lead to plans still to be looked at are gathered. The step has
+    /// Notes the plan that a repair leads to, and gathers the repair's move if this plan is still to be looked at. The step has
     /// what was seen before the repair.
     pub(crate) fn note_repair(
         &mut self,

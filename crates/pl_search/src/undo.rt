@@ -60,7 +60,7 @@ fn make_trial(board: &mut Board, mv: &RepairMove, trial: Trial) -> Result<Undo, 
     Ok(Undo { change: undo, next })
 }
 
-/// Makes a move, and tells what takes it back.
+/// Makes a move, and answers what takes it back.
 pub(crate) fn make_for_now(
     alloc: Global,
     board: &mut Board,

@@ -18,5 +18,5 @@ pub use laws::{
 };
 pub use passed::passed_by;
 pub use sharing::shared_types;
-pub use touched::{Touched, each_once, touched_by};
+pub use touched::{Touched, each_once};
 pub use turned::{Turned, turned_by};

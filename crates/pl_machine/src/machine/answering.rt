@@ -27,7 +27,7 @@ impl Machine {
         self.fix(conflict, repair)
     }
 
-    /// Makes any event of a log, if it may be made. An opening is none that a machine answers.
+    /// Makes an event of any sort, if it may be made. The opening of a log is no event that a machine answers.
     pub fn answer(&mut self, event: &Event) -> Result<Reply, Stop>
         requires unspoiled { self.old.spoiled ≡ false }
         requires event { IsEventInRange self.old.model event.now }

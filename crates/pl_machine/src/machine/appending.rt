@@ -38,7 +38,7 @@ fn log_entry(
     Ok(again)
 }
 
-/// Appends an entry. Where memory is wanting the board is spoiled.
+/// Appends an entry. Want of memory spoils the board.
 pub(crate) fn push_entry(
     log: &mut Vec<Entry>,
     board: &mut Board,
@@ -61,7 +61,7 @@ pub(crate) fn push_entry(
     }
 }
 
-/// Reserves the place of one more entry. Where memory is wanting the board is spoiled.
+/// Reserves the place of one more entry. Want of memory spoils the board.
 pub(crate) fn reserve_entry(log: &mut Vec<Entry>, board: &mut Board) -> Result<(), AllocError>
     ensures same { log.new.items ≡ log.old.items }
     ensures place { OnOk result (vec_len log.new < vec_capacity log.new) }
@@ -108,7 +108,7 @@ fn change_board(board: &mut Board, alloc: Global, change: Change) -> Result<(), 
     }
 }
 
-/// Whether more may come to be due by the change.
+/// Whether more commands may come to be due by the change.
 fn is_tick(change: &Change) -> bool
     ensures { result ≡ is_tick change.now }
 {
@@ -118,8 +118,8 @@ fn is_tick(change: &Change) -> bool
     }
 }
 
-/// Makes a change of a board, and keeps the schedule up, in which only a tick makes more due. Where memory is
-/// wanting the board is spoiled.
+/// Makes a change of a board, and brings the schedule up to date. Only by a tick more commands come to be due. Want of memory
+/// spoils the board.
 fn change_due(
     board: &mut Board,
     schedule: &mut Schedule,
@@ -150,7 +150,7 @@ fn change_due(
     }
 }
 
-/// Makes a change of a board, keeps the schedule up, and appends the entry, whose place in the log is reserved first.
+/// Makes a change of a board, brings the schedule up to date, and appends the entry. Its place in the log is reserved first.
 fn push_change(
     log: &mut Vec<Entry>,
     board: &mut Board,

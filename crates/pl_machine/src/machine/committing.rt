@@ -73,7 +73,7 @@ impl Machine {
         }
     }
 
-    /// What starts before a moment is committed.
+    /// Grants a commit: what starts before this moment is now committed.
     fn grant(&mut self, h: u32) -> Result<Reply, Stop>
         requires open { IsOpen self.old (Event.Commit h) }
         requires whole { IsWhole self.old.world.state }
@@ -117,7 +117,8 @@ impl Machine {
         }
     }
 
-    /// Commits what starts before `h`, where no conflict touches it. Nothing committed is taken back, and no conflict comes or goes.
+    /// Commits what starts before `h`, if no conflict begins before `h`. Nothing that is committed is taken back, and no conflict
+    /// comes or goes.
     pub fn commit(&mut self, h: u32) -> Result<Reply, Stop>
         ensures answers { Answers self.old (Event.Commit h) result self.new }
         ensures never_falls { OnOk result (self.old.world.state.committed ≤ self.new.world.state.committed) }

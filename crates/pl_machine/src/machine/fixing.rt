@@ -56,7 +56,7 @@ impl Machine {
         is_candidate(self.alloc, &self.board, conflict, repair)
     }
 
-    /// The plan state, which is whole, and whose ids are few.
+    /// The plan state, of which the contract says that it is whole and that few ids have been given.
     pub(crate) fn standing(&self) -> &PlanState
         requires { self.now.spoiled ≡ false }
         ensures value { result.now ≡ self.now.world.state }
@@ -146,7 +146,7 @@ impl Machine {
         !self.round.closed && (!self.round.rested && self.round.turn < self.options.turns)
     }
 
-    /// Makes a repair of a conflict, where it is a legal candidate of it. No repair changes what is committed.
+    /// Makes a repair of a conflict, if it is a legal candidate of it. No repair changes what is committed.
     pub fn fix(&mut self, conflict: &Conflict, repair: &RepairMove) -> Result<Reply, Stop>
         requires { IsMoveOf self.old.model repair.now }
         ensures answers { Answers self.old (Event.Fix conflict.now repair.now) result self.new }

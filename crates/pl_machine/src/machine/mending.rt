@@ -64,7 +64,7 @@ fn push_repair<C: Chooser>(
 }
 
 impl Machine {
-    /// Lets a chooser make the next repair, and logs it. Where no conflict has a legal candidate there is none, and all stays as it is.
+    /// Lets a chooser make the next repair, and logs it. If no conflict has a legal candidate, none is made, and all stays as it is.
     pub(crate) fn make_next<C: Chooser>(
         &mut self,
         chooser: &mut C,

@@ -11,7 +11,8 @@ use pl_facts::Options;
 use pl_model::Model;
 
 impl Machine {
-    /// The log. It is a legal one, and an unspoiled machine stands for the world after it, a spoiled one for all of it but the plan state.
+    /// The log, which is legal. The world of an unspoiled machine is the world after this log. Of a spoiled machine this holds of
+    /// all but the plan state.
     pub fn log(&self) -> &[Entry]
         ensures entries { result.now ≡ self.now.log }
         ensures legal { Legal self.now.model self.now.log }

@@ -18,7 +18,7 @@ impl Machine {
         !self.round.closed && !self.round.rested
     }
 
-    /// Lets a chooser make the next repair. Where there is none no conflict has a legal candidate, and repair rests.
+    /// Lets a chooser make the next repair. If it makes none, no conflict has a legal candidate, and repair rests.
     #[tactic(auto, using(crate::proofs::Mending::made_fails, crate::proofs::Mending::asked_fails))]
     fn mend<C: Chooser>(&mut self, chooser: &mut C) -> Result<Repaired, Stop>
         requires unspoiled { self.old.spoiled ≡ false }
@@ -38,7 +38,7 @@ impl Machine {
         }
     }
 
-    /// One turn of repair: lets a chooser make the next repair, or lets repair rest where there is a reason to. A turn that rests leaves
+    /// One turn of repair: lets a chooser make the next repair, or lets repair rest if there is a reason to. A turn that rests leaves
     /// the chooser as it was. What a chooser makes is known to be a legal candidate, so candidates are not listed again, and the
     /// machine does not make it a second time. No repair changes what is committed.
     #[tactic(auto, using(crate::proofs::Mending::not_admitted, crate::proofs::Resting::plain_rests, crate::proofs::Mending::rest_open, crate::proofs::Mending::rested, crate::proofs::Mending::rest_keeps, crate::proofs::Mending::rest_fails))]

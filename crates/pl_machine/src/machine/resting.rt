@@ -10,7 +10,7 @@ use pl_entry::{Event, Reason, Reply};
 use std::alloc::AllocError;
 
 impl Machine {
-    /// Why repair is to rest, if that is told without a look at candidates: no conflict is left, or the turns are spent.
+    /// Why repair is to rest, as far as this is known without a look at candidates: no conflict is left, or the turns are spent.
     pub fn plain_reason(&self) -> Option<Reason>
         requires { self.now.spoiled ≡ false }
         ensures { result ≡ plain_reason_of self.now.world }
@@ -54,7 +54,7 @@ impl Machine {
         self.append(Event::Rest, Reply::Rested(reason), round)
     }
 
-    /// Lets repair rest, where there is a reason to.
+    /// Lets repair rest, if there is a reason to.
     pub fn rest(&mut self) -> Result<Reply, Stop>
         ensures { Answers self.old Event.Rest result self.new }
     {

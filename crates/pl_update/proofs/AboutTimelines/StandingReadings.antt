@@ -21,7 +21,7 @@ use Rattle.pl_update.specs.declared.timelines.line.Line.{Line}
 use Rattle.pl_update.specs.declared.timelines.line.Line.TheVariants.{Capacity, Level, States}
 use Rattle.pl_update.specs.Timelines.Framed.{bare, idle, AreFramed, AreLinesOf}
 use Rattle.pl_update.specs.Timelines.Moments.{MayReach, CanHave, CanHaveAt}
-use Rattle.pl_update.specs.Timelines.Readings.{IsCapacityAt, IsLevelAt, AreStatesAt, used_of, level_of, state_of}
+use Rattle.pl_update.specs.Timelines.Readings.{IsCapacityAt, IsLevelAt, IsLevelIn, AreStatesAt, used_of, level_of, state_of}
 use Rattle.pl_update.proofs.AboutTimelines.StandingLines.{frame_at, framed_there, IsFramedAs, no_uses, no_effects, no_items, empty_capacity, empty_level, empty_states, same_capacity, same_level, same_states, used_now, level_now, state_now}
 
 -- a timeline of the plan's horizon, at its present
@@ -123,6 +123,12 @@ module _ (s : PlanState) (lines : List Line) (are : AreLinesOf s lines) (line t 
       let there = level_there s lines are.framed line of in
       let is = there.2 in
       subst (IsLevelAt t) (sym there.1) (is.sound, omega (arith, is.present, le), omega (arith, is.end, lt))
+
+  pub level_readable_in : (to : ℕ) → IsLevelLine (slice_get s.model.timelines line) → s.moment ≤ t → t ≤ to → to ≤ s.model.horizon → IsLevelIn t to (slice_get lines line)
+  level_readable_in to of le order bound =
+      let there = level_there s lines are.framed line of in
+      let is = there.2 in
+      subst (IsLevelIn t to) (sym there.1) (is.sound, omega (arith, is.present, le), order, omega (arith, is.end, bound))
 
   pub level_read : IsLevelLine (slice_get s.model.timelines line) → level_of t (slice_get lines line) ≡ level_at s line t
   level_read of =

@@ -15,6 +15,11 @@ abbrev pub IsLevelAt : ℕ → Option Line → Type 0
 IsLevelAt t (Some (Level l)) = (l.spoiled ≡ false) × (l.moment ≤ t) × (t < l.horizon)
 IsLevelAt t _ = ⊥
 
+-- a level that is not spoiled, and a window from the present or later up to the horizon or less
+abbrev pub IsLevelIn : ℕ → ℕ → Option Line → Type 0
+IsLevelIn from to (Some (Level l)) = (l.spoiled ≡ false) × (l.moment ≤ from) × (from ≤ to) × (to ≤ l.horizon)
+IsLevelIn from to _ = ⊥
+
 abbrev pub AreStatesAt : ℕ → Option Line → Type 0
 AreStatesAt t (Some (States x)) = (x.spoiled ≡ false) × (x.moment ≤ t) × (t < x.horizon)
 AreStatesAt t _ = ⊥

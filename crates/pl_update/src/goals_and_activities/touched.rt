@@ -1,13 +1,12 @@
 ghost use Rattle.std.specs.Prelude.{◌≡◌, ◌++◌, [], All, IfOk, OnOk, IsTrue};
-ghost use Rattle.std.specs.List.{flat_map, filter_map};
+ghost use Rattle.std.specs.List.{flat_map};
 ghost use Rattle.std.specs.List.Sorted.{IsStrictlyIncreasing};
-ghost use Rattle.std.specs.Option.{option_to_list};
 ghost use Rattle.pl_update.specs.Changes.Replaced.{touched};
 ghost use Rattle.pl_plan.specs.Activities.{IsLive};
 ghost use Rattle.pl_plan.specs.Serving.{served_in};
 ghost use Rattle.pl_semantics.specs.Whole.{IsWhole};
 ghost use Rattle.pl_update.specs.GoalsAndActivities.Near.{HoldSame};
-ghost use Rattle.pl_update.specs.GoalsAndActivities.Touched.{served_at, served_by_id, children_at, touched_goals, touched_ids};
+ghost use Rattle.pl_update.specs.GoalsAndActivities.Touched.{served_by_id, children_at, touched_ids};
 
 use pl_plan::Activity;
 use pl_semantics::PlanState;
@@ -43,33 +42,6 @@ pub(crate) fn served_by_id(s: &PlanState, id: u32) -> Option<u32>
     ensures { result ≡ served_by_id s.now id }
 {
     served_in(s.plan.get(id)?)
-}
-
-fn add_number(numbers: &mut Vec<u32>, number: Option<u32>) -> Result<(), AllocError>
-    ensures { OnOk result (numbers.new.items ≡ numbers.old.items ++ option_to_list number) }
-{
-    match number {
-        Some(number) => Ok(numbers.push(number)?),
-        None => Ok(()),
-    }
-}
-
-fn add_served_before(s: &PlanState, gone: &[u32], numbers: &mut Vec<u32>) -> Result<(), AllocError>
-    ensures { OnOk result (numbers.new.items ≡ numbers.old.items ++ flat_map (served_at s.now) gone.now) }
-{
-    for id in gone {
-        add_number(numbers, served_by_id(s, *id))?;
-    }
-    Ok(())
-}
-
-fn add_served_after(placed: &[Activity], numbers: &mut Vec<u32>) -> Result<(), AllocError>
-    ensures { OnOk result (numbers.new.items ≡ numbers.old.items ++ filter_map served_in placed.now) }
-{
-    for a in placed {
-        add_number(numbers, served_in(a))?;
-    }
-    Ok(())
 }
 
 // Whether no alternative of it is chosen, so that it has no children.
@@ -118,24 +90,6 @@ fn add_children(
     Ok(())
 }
 
-// Few changes concern more goals.
-const USUAL: usize = 4;
-
-#[tactic(auto, unfolding(crate::specs::GoalsAndActivities::Touched::touched_goals))]
-fn numbers_touched(
-    alloc: Global,
-    s: &PlanState,
-    gone: &[u32],
-    placed: &[Activity],
-) -> Result<Vec<u32>, AllocError>
-    ensures { IfOk result (λ numbers. numbers.items ≡ touched_goals s.now gone.now placed.now) }
-{
-    let mut numbers = Vec::with_capacity(alloc, USUAL)?;
-    add_served_before(s, gone, &mut numbers)?;
-    add_served_after(placed, &mut numbers)?;
-    Ok(numbers)
-}
-
 fn ids_changed(alloc: Global, gone: &[u32], placed: &[Activity]) -> Result<Vec<u32>, AllocError>
     ensures { IfOk result (λ ids. ids.items ≡ touched gone.now placed.now) }
 {
@@ -161,26 +115,4 @@ pub(crate) fn ids_touched(
     let mut ids = ids_changed(alloc, gone, placed)?;
     add_children(alloc, s, gone, &mut ids)?;
     Ok(ids)
-}
-
-/// What it concerns that activities go and others come, each once and rising: the goals that these serve, these activities, and the children
-/// of those that go.
-pub fn touched_by(
-    alloc: Global,
-    s: &PlanState,
-    gone: &[u32],
-    placed: &[Activity],
-) -> Result<Touched, AllocError>
-    requires whole { IsWhole s.now }
-    requires live { All (λ id. IsLive id s.now.plan.activities) gone.now }
-    ensures numbers { IfOk result (λ t. HoldSame t.numbers.items (touched_goals s.now gone.now placed.now)) }
-    ensures ids { IfOk result (λ t. HoldSame t.ids.items (touched_ids s.now gone.now placed.now)) }
-    ensures rising { IfOk result (λ t. IsStrictlyIncreasing t.numbers.items × IsStrictlyIncreasing t.ids.items) }
-{
-    let numbers = numbers_touched(alloc, s, gone, placed)?;
-    let ids = ids_touched(alloc, s, gone, placed)?;
-    Ok(Touched {
-        numbers: each_once(numbers),
-        ids: each_once(ids),
-    })
 }

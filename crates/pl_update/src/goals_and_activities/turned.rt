@@ -1,4 +1,4 @@
-//! Which goals are served before a replacement and not after it, or after it alone.
+//! Which goals one that goes in a replacement serves and none that comes, and which ones one that comes serves and none that goes.
 ghost use Rattle.std.specs.Prelude.{◌≡◌, ◌++◌, ◌∷◌, [], not, filter, All, IfOk, OnOk};
 ghost use Rattle.std.specs.List.{flat_map};
 ghost use Rattle.std.specs.Option.{option_to_list};
@@ -16,9 +16,9 @@ use pl_plan::Activity;
 use pl_semantics::PlanState;
 use std::alloc::{AllocError, Global};
 
-/// The goals and activities whose conflicts a replacement changes. Before it, these are the goals in `met`, which
-/// something serves after the replacement alone, with the activities of `after`. After it, they are those in `after`:
-/// the goals that nothing serves any longer, and the same activities.
+/// The goals and activities whose conflicts a replacement may change. Before it, these are the goals in `met`, which one
+/// that comes serves and none that goes, with the activities of `after`. After it, they are those in `after`: the goals that
+/// one that goes serves and none that comes, and the same activities.
 #[derive(Drop)]
 pub struct Turned {
     pub met: Vec<u32>,
@@ -147,8 +147,9 @@ fn goals_met(
     Ok(numbers)
 }
 
-/// What it concerns that activities go and others come: before it the goals that are served by it alone, and after it those
-/// that are served no longer. The activities are those that go or come and the children of those that go, each once.
+/// What it concerns that activities go and others come: before it the goals that one that comes serves and none that goes,
+/// and after it those that one that goes serves and none that comes. The activities are those that go or come and the children
+/// of those that go, each once.
 pub fn turned_by(
     alloc: Global,
     s: &PlanState,

@@ -15,7 +15,7 @@ ghost use Rattle.pl_update.specs.Timelines.Laws.{AreOnce, gone_from, coming_to};
 ghost use Rattle.pl_update.specs.Timelines.Mending.{IsMoved, less, CanAsk};
 ghost use Rattle.pl_update.specs.Timelines.Moments.{at_moment, MayReach, CanHaveAt, rebased_in};
 ghost use Rattle.pl_update.specs.Timelines.Named.{AreNamed};
-ghost use Rattle.pl_update.specs.Timelines.Readings.{IsCapacityAt, IsLevelAt, AreStatesAt, used_of, level_of, state_of};
+ghost use Rattle.pl_update.specs.Timelines.Readings.{IsCapacityAt, IsLevelAt, IsLevelIn, AreStatesAt, used_of, level_of, state_of};
 ghost use Rattle.pl_update.specs.Timelines.Told.{wrong_at, IsTold};
 ghost use Rattle.pl_detect.specs.Based.{IsStateLine};
 ghost use Rattle.pl_model.specs.Checked.{IsCapacityLine, IsLevelLine};
@@ -65,6 +65,7 @@ pub fn laws_of_readings()
     ensures may_use { (s : PlanState) (lines : List ALine) (line t : ℕ) → AreLinesOf s lines → IsCapacityLine (slice_get s.model.timelines line) → s.moment ≤ t → t < s.model.horizon → IsCapacityAt t (slice_get lines line) }
     ensures uses { (s : PlanState) (lines : List ALine) (line t : ℕ) → AreLinesOf s lines → IsCapacityLine (slice_get s.model.timelines line) → used_of t (slice_get lines line) ≡ use_at s line t }
     ensures may_level { (s : PlanState) (lines : List ALine) (line t : ℕ) → AreLinesOf s lines → IsLevelLine (slice_get s.model.timelines line) → s.moment ≤ t → t < s.model.horizon → IsLevelAt t (slice_get lines line) }
+    ensures may_level_in { (s : PlanState) (lines : List ALine) (line from to : ℕ) → AreLinesOf s lines → IsLevelLine (slice_get s.model.timelines line) → s.moment ≤ from → from ≤ to → to ≤ s.model.horizon → IsLevelIn from to (slice_get lines line) }
     ensures levels { (s : PlanState) (lines : List ALine) (line t : ℕ) → AreLinesOf s lines → IsLevelLine (slice_get s.model.timelines line) → level_of t (slice_get lines line) ≡ level_at s line t }
     ensures may_state { (s : PlanState) (lines : List ALine) (line t : ℕ) → AreLinesOf s lines → IsStateLine (slice_get s.model.timelines line) → s.moment ≤ t → t < s.model.horizon → AreStatesAt t (slice_get lines line) }
     ensures states { (s : PlanState) (lines : List ALine) (line t : ℕ) → IsWhole s → AreLinesOf s lines → IsStateLine (slice_get s.model.timelines line) → state_of t (slice_get lines line) ≡ state_at s line t }

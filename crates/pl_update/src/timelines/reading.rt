@@ -1,10 +1,12 @@
-//! What timelines come to at a moment.
-ghost use Rattle.std.specs.Prelude.{◌≡◌, slice_get};
-ghost use Rattle.pl_update.specs.Timelines.Readings.{IsCapacityAt, IsLevelAt, AreStatesAt, used_of, level_of, state_of};
+//! What timelines come to at a moment, and how long a level stays between two bounds.
+ghost use Rattle.std.specs.Prelude.{◌≡◌, ◌<◌, ◌≤◌, ℕ, true, false, slice_get};
+ghost use Rattle.pl_points.specs.Sums.{IsSmall};
+ghost use Rattle.pl_points.specs.Points.{is_out};
+ghost use Rattle.pl_update.specs.Timelines.Readings.{IsCapacityAt, IsLevelAt, IsLevelIn, AreStatesAt, used_of, level_of, state_of};
 
 use crate::timelines::line::Line;
 use crate::timelines::lines::Lines;
-use pl_points::{Quiet, Steps};
+use pl_points::{Quiet, Span, Steps};
 
 impl Lines {
     /// What is in use of a capacity.
@@ -25,6 +27,24 @@ impl Lines {
     {
         match &self.all[line as usize] {
             Line::Level(level) => level.at(t, &mut Steps::new(Quiet)),
+            _ => unreachable!(),
+        }
+    }
+
+    /// The first moment from `from` on and before `to` at which the level is below `least` or above `most`, or else `to`.
+    pub fn level_until(&self, line: u32, from: u32, to: u32, least: i64, most: i64) -> u32
+        requires window { IsLevelIn from to (slice_get self.now line) }
+        requires least { IsSmall least }
+        requires most { IsSmall most }
+        ensures low { from ≤ result }
+        ensures bound { result ≤ to }
+        ensures within { (t : ℕ) → from ≤ t → t < result → is_out least most (level_of t (slice_get self.now line)) ≡ false }
+        ensures leaves { result < to → is_out least most (level_of result (slice_get self.now line)) ≡ true }
+    {
+        match &self.all[line as usize] {
+            Line::Level(level) => {
+                level.within_until(least, most, Span { from, to }, &mut Steps::new(Quiet))
+            }
             _ => unreachable!(),
         }
     }

@@ -30,5 +30,6 @@ returns-clause-known c =
     let s = c.args.s.now in
     let a = c.in_ok-asking.asking in
     known_new s c.requires.whole c.requires.next c.args.kind c.args.start c.args.goal c.requires.allowed c.in_ok-steady.steady c.in_ok-steady.ensures
+    c.left_alone_by_new.result (c.left_alone_by_new.ensures s c.requires.standing)
     c.added_alone.result (c.added_alone.ensures ∙ ap (λ (t : PlanState). root_in t s.next_id c.args.kind c.args.start) c.in_ok-alone.ensures)
     a c.in_ok-asking.ensures.going (c.in_ok-asking.ensures.coming ∙ ap (λ (t : PlanState). demands_of t) c.in_ok-alone.ensures) c.in_ok-asking.ensures.start

@@ -2,4 +2,4 @@ use Rattle.pl_bounds.proofs.Looked.{looks_ahead}
 use Rattle.pl_bounds.proofs.looking.looks_at.Goals as goal
 
 pub returns : goal.returns
-returns c = looks_ahead c.args.board.now.state c.args.side c.args.line _ _ c.in_ok-look_at_crossings.ensures
+returns c = looks_ahead c.args.board.now.state c.args.side c.args.line _ _ c.loop-conflict.invariant

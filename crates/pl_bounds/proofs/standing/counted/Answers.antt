@@ -10,22 +10,22 @@ pub loop-conflict-preserved : goal.loop-conflict-preserved
 loop-conflict-preserved c =
     let next = rest_more deref c.loop-conflict.conflict-iterator c.next.new.self c.next.result c.in-Some.conflict c.in-Some.is c.next.ensures.steps in
     record {
-      wrong = one_more is_plain c.in-Some.conflict.now c.loop-conflict.conflict-iterator c.next.new.self c.loop-conflict.standing.wrong c.with-standing.result.wrong (length (filter is_plain c.args.conflicts.now)) next c.with-standing.ensures.wrong c.loop-conflict.invariant.wrong;
-      unmoved = one_more is_unmoved_one c.in-Some.conflict.now c.loop-conflict.conflict-iterator c.next.new.self c.loop-conflict.standing.unmoved c.with-standing.result.unmoved (length (filter is_unmoved_one c.args.conflicts.now)) next c.with-standing.ensures.unmoved c.loop-conflict.invariant.unmoved;
-      valueless = one_more is_valueless_one c.in-Some.conflict.now c.loop-conflict.conflict-iterator c.next.new.self c.loop-conflict.standing.valueless c.with-standing.result.valueless (length (filter is_valueless_one c.args.conflicts.now)) next c.with-standing.ensures.valueless c.loop-conflict.invariant.valueless;
+      wrong = one_more is_plain c.in-Some.conflict.now c.loop-conflict.conflict-iterator c.next.new.self c.loop-conflict.counts.wrong c.with-counts.result.wrong (length (filter is_plain c.args.conflicts.now)) next c.with-counts.ensures.wrong c.loop-conflict.invariant.wrong;
+      unmoved = one_more is_unmoved_one c.in-Some.conflict.now c.loop-conflict.conflict-iterator c.next.new.self c.loop-conflict.counts.unmoved c.with-counts.result.unmoved (length (filter is_unmoved_one c.args.conflicts.now)) next c.with-counts.ensures.unmoved c.loop-conflict.invariant.unmoved;
+      valueless = one_more is_valueless_one c.in-Some.conflict.now c.loop-conflict.conflict-iterator c.next.new.self c.loop-conflict.counts.valueless c.with-counts.result.valueless (length (filter is_valueless_one c.args.conflicts.now)) next c.with-counts.ensures.valueless c.loop-conflict.invariant.valueless;
     }
 
 pub returns-clause-wrong : goal.returns-clause-wrong
 returns-clause-wrong c =
     let over = rest_all deref c.loop-conflict.conflict-iterator c.next.new.self c.next.result c.in-None.is c.next.ensures.steps in
-    none_left is_plain c.loop-conflict.conflict-iterator c.loop-conflict.standing.wrong (length (filter is_plain c.args.conflicts.now)) over c.loop-conflict.invariant.wrong
+    none_left is_plain c.loop-conflict.conflict-iterator c.loop-conflict.counts.wrong (length (filter is_plain c.args.conflicts.now)) over c.loop-conflict.invariant.wrong
 
 pub returns-clause-unmoved : goal.returns-clause-unmoved
 returns-clause-unmoved c =
     let over = rest_all deref c.loop-conflict.conflict-iterator c.next.new.self c.next.result c.in-None.is c.next.ensures.steps in
-    none_left is_unmoved_one c.loop-conflict.conflict-iterator c.loop-conflict.standing.unmoved (length (filter is_unmoved_one c.args.conflicts.now)) over c.loop-conflict.invariant.unmoved
+    none_left is_unmoved_one c.loop-conflict.conflict-iterator c.loop-conflict.counts.unmoved (length (filter is_unmoved_one c.args.conflicts.now)) over c.loop-conflict.invariant.unmoved
 
 pub returns-clause-valueless : goal.returns-clause-valueless
 returns-clause-valueless c =
     let over = rest_all deref c.loop-conflict.conflict-iterator c.next.new.self c.next.result c.in-None.is c.next.ensures.steps in
-    none_left is_valueless_one c.loop-conflict.conflict-iterator c.loop-conflict.standing.valueless (length (filter is_valueless_one c.args.conflicts.now)) over c.loop-conflict.invariant.valueless
+    none_left is_valueless_one c.loop-conflict.conflict-iterator c.loop-conflict.counts.valueless (length (filter is_valueless_one c.args.conflicts.now)) over c.loop-conflict.invariant.valueless

@@ -6,7 +6,7 @@ use Rattle.pl_bounds.proofs.standing.counted.Given as goal
 -- with those among the others they are no more than all
 abbrev pub invariant-loop-conflict : goal.invariant-loop-conflict
 invariant-loop-conflict l = record {
-  wrong : l.standing.wrong + length (filter is_plain l.conflict-iterator) ≤ length (filter is_plain l.conflicts);
-  unmoved : l.standing.unmoved + length (filter is_unmoved_one l.conflict-iterator) ≤ length (filter is_unmoved_one l.conflicts);
-  valueless : l.standing.valueless + length (filter is_valueless_one l.conflict-iterator) ≤ length (filter is_valueless_one l.conflicts);
+  wrong : l.counts.wrong + length (filter is_plain l.conflict-iterator) ≤ length (filter is_plain l.conflicts);
+  unmoved : l.counts.unmoved + length (filter is_unmoved_one l.conflict-iterator) ≤ length (filter is_unmoved_one l.conflicts);
+  valueless : l.counts.valueless + length (filter is_valueless_one l.conflict-iterator) ≤ length (filter is_valueless_one l.conflicts);
 }

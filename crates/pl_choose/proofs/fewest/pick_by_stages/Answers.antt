@@ -2,7 +2,7 @@ use Rattle.std.proofs.Common.{List, ◌∙◌, ap, sym, subst}
 use Rattle.std.specs.Prelude.{All, ℕ}
 use Rattle.pl_choose.specs.Stages.{TakesOut}
 use Rattle.pl_choose.specs.declared.stages.Stage.{Stage}
-use Rattle.pl_choose.proofs.Turning.{gone_first, some_stage}
+use Rattle.pl_choose.proofs.InTurn.{gone_first, some_stage}
 use Rattle.pl_choose.proofs.fewest.pick_by_stages.Goals as goal
 
 pub bounds-stages-0 : goal.bounds-stages-0

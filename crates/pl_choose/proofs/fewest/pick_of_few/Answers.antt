@@ -9,14 +9,14 @@ use Rattle.pl_choose.specs.Tried.{best_of}
 use Rattle.pl_choose.proofs.Aims.{picked_as, first_is_fewest, found_from}
 use Rattle.pl_choose.proofs.fewest.pick_of_few.Goals as goal
 
-pub returns-in-Settled-clause-picked : goal.returns-in-Settled-clause-picked
-returns-in-Settled-clause-picked c =
+pub returns-in-Decided-clause-picked : goal.returns-in-Decided-clause-picked
+returns-in-Decided-clause-picked c =
     let s = c.args.board.now.state in
     let first : RepairMove = c.args.first.now in
-    let started = rw c.in-Settled.is at c.in_ok-picked.ensures.started in
+    let started = rw c.in-Decided.is at c.in_ok-picked.ensures.started in
     let P : RepairMove → Type 0 = λ m. m ≡ first in
     let Q : RepairMove → Type 0 = λ m. fewest s (first ∷ c.args.rest.now) ≡ Some m in
-    picked_as c.args.purpose P Q c.args.board.now c.in-Settled.picked c.start_with.new.board (λ m is. first_is_fewest s first c.args.rest.now c.args.least m started.0 c.requires.least is) started.1
+    picked_as c.args.purpose P Q c.args.board.now c.in-Decided.picked c.start_with.new.board (λ m is. first_is_fewest s first c.args.rest.now c.args.least m started.0 c.requires.least is) started.1
 
 pub returns-in_ok-bounds-in-Open-clause-picked : goal.returns-in_ok-bounds-in-Open-clause-picked
 returns-in_ok-bounds-in-Open-clause-picked c =

@@ -9,17 +9,17 @@ use Rattle.pl_choose.specs.Tried.{best_of}
 use Rattle.pl_choose.proofs.Aims.{picked_as, first_is_fewest, found_from, least_all}
 use Rattle.pl_choose.proofs.fewest.pick_of_many.Goals as goal
 
-pub returns-in-Settled-clause-picked : goal.returns-in-Settled-clause-picked
-returns-in-Settled-clause-picked c =
+pub returns-in-Decided-clause-picked : goal.returns-in-Decided-clause-picked
+returns-in-Decided-clause-picked c =
     let s = c.args.board.now.state in
     let first : RepairMove = c.args.first.now in
     let least : ℕ = c.lowest_of-least.result in
-    let started = rw (c.in-Settled.is, c.in_ok-bounds.ensures.same) at c.in_ok-picked.ensures.started in
+    let started = rw (c.in-Decided.is, c.in_ok-bounds.ensures.same) at c.in_ok-picked.ensures.started in
     let P : RepairMove → Type 0 = λ m. m ≡ first in
     let Q : RepairMove → Type 0 = λ m. fewest s (first ∷ c.args.rest.now) ≡ Some m in
     let low : All (λ n. least ≤ n) c.in_ok-bounds.bounds.items = rw c.deref.ensures.value at c.lowest_of-least.ensures.least in
     let others : All (λ m. least ≤ left_after s m) c.args.rest.now = least_all s least c.args.rest.now c.in_ok-bounds.bounds.items c.in_ok-bounds.ensures.least low in
-    picked_as c.args.purpose P Q c.args.board.now c.in-Settled.picked c.start_with.new.board (λ m is. first_is_fewest s first c.args.rest.now least m started.0 others is) started.1
+    picked_as c.args.purpose P Q c.args.board.now c.in-Decided.picked c.start_with.new.board (λ m is. first_is_fewest s first c.args.rest.now least m started.0 others is) started.1
 
 pub returns-clause-picked : goal.returns-clause-picked
 returns-clause-picked c =

@@ -6,8 +6,8 @@ use Rattle.pl_choose.specs.Picks.{least_pick}
 use Rattle.pl_choose.proofs.Proposing.{least_is_proposal}
 use Rattle.pl_choose.proofs.least.choose_behind.Goals as goal
 
-pub settle-requires-clause-legal : goal.settle-requires-clause-legal
-settle-requires-clause-legal c =
+pub make_if_mending-requires-clause-legal : goal.make_if_mending-requires-clause-legal
+make_if_mending-requires-clause-legal c =
     let s = c.args.board.now.state in
     let P : Option Proposal → Type 0 = λ p. IsProposal s p in
     subst P (sym (c.requires.best c.if-is_best.true)) (least_is_proposal s)
@@ -17,4 +17,4 @@ returns-then-is_best-clause-picks c =
     let is = c.requires.best c.if-is_best.true in
     let P : Option Proposal → Type 0 = λ p. p ≡ Some c.args.proposal in
     let Q : Option Proposal → Type 0 = λ p. p ≡ least_pick c.args.board.now.state in
-    IfOk-weaker c.settle.result P Q (λ p e. e ∙ is) c.settle.ensures.told
+    IfOk-weaker c.make_if_mending.result P Q (λ p e. e ∙ is) c.make_if_mending.ensures.told

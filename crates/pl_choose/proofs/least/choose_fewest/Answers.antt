@@ -9,8 +9,8 @@ use Rattle.pl_choose.proofs.least.choose_fewest.Goals as goal
 pub fewest-requires-clause-allowed : goal.fewest-requires-clause-allowed
 fewest-requires-clause-allowed c = rw (c.as_slice.ensures.value, c.requires.first.1) (all_allowed c.args.board.now.state c.args.repairs.now.conflict)
 
-pub settle-requires-clause-legal : goal.settle-requires-clause-legal
-settle-requires-clause-legal c =
+pub make_if_mending-requires-clause-legal : goal.make_if_mending-requires-clause-legal
+make_if_mending-requires-clause-legal c =
     let s = c.args.board.now.state in
     let P : Option Proposal → Type 0 = λ p. IsProposal s p in
     let found = rw (c.in-Some-Found.is, c.in-Some-Found.field-0-is, c.as_slice.ensures.value) at c.in_ok-mv.ensures.fewest in
@@ -29,7 +29,7 @@ returns-in-Some-Found-clause-picks c =
     let is : Some (proposal c.args.repairs.now.conflict c.in-Some-Found.mv) ≡ least_pick s = picks_least s c.args.repairs.now c.in-Some-Found.mv c.requires.first found.0 in
     let P : Option Proposal → Type 0 = λ p. p ≡ Some (proposal c.args.repairs.now.conflict c.in-Some-Found.mv) in
     let Q : Option Proposal → Type 0 = λ p. p ≡ least_pick s in
-    IfOk-weaker c.settle.result P Q (λ p e. e ∙ is) c.settle.ensures.told
+    IfOk-weaker c.make_if_mending.result P Q (λ p e. e ∙ is) c.make_if_mending.ensures.told
 
 pub returns-in-None-clause-picks : goal.returns-in-None-clause-picks
 returns-in-None-clause-picks c =

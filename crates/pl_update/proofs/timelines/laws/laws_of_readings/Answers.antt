@@ -1,4 +1,4 @@
-use Rattle.pl_update.proofs.AboutTimelines.StandingReadings.{capacity_at, used_at, level_readable, level_read, state_readable, state_read, may_reach, can_have}
+use Rattle.pl_update.proofs.AboutTimelines.StandingReadings.{capacity_at, used_at, level_readable, level_readable_in, level_read, state_readable, state_read, may_reach, can_have}
 use Rattle.pl_update.proofs.timelines.laws.laws_of_readings.Goals as goal
 
 pub returns-clause-may_use : goal.returns-clause-may_use
@@ -9,6 +9,9 @@ returns-clause-uses c = λ s lines line t are of. used_at s lines are line t of
 
 pub returns-clause-may_level : goal.returns-clause-may_level
 returns-clause-may_level c = λ s lines line t are of le lt. level_readable s lines are line t of le lt
+
+pub returns-clause-may_level_in : goal.returns-clause-may_level_in
+returns-clause-may_level_in c = λ s lines line from to are of le order bound. level_readable_in s lines are line from to of le order bound
 
 pub returns-clause-levels : goal.returns-clause-levels
 returns-clause-levels c = λ s lines line t are of. level_read s lines are line t of

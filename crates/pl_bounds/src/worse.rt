@@ -1,0 +1,50 @@
+//! When what a move places makes a timeline worse, and whether it may then be past its limit.
+ghost use Rattle.std.specs.Prelude.{◌≤◌, ◌<◌, IfSome};
+
+use crate::added::{Added, Change};
+use crate::outside::{Outside, Side};
+use crate::reading::is_past;
+use pl_semantics::Asked;
+
+// The moment from which on what is asked makes it worse, if it does.
+fn worsens(side: Side, asked: &Asked) -> Option<u32> {
+    match (side, asked) {
+        (Side::Over, Asked::Use(u)) => Some(u.from),
+        (Side::Low, Asked::Effect(e)) if e.delta < 0 => Some(e.at),
+        (Side::High, Asked::Effect(e)) if 0 < e.delta => Some(e.at),
+        _ => None,
+    }
+}
+
+/// A moment from one on and before another at which what comes makes it worse, if there is one.
+pub(crate) fn worse_within(
+    outside: &Outside,
+    change: &Change<'_>,
+    from: u32,
+    to: u32,
+) -> Option<u32>
+    ensures { IfSome result (λ at. (from ≤ at) × (at < to)) }
+{
+    for demand in change.coming {
+        if demand.line != outside.line {
+            continue;
+        }
+        if let Some(t) = worsens(outside.side, &demand.asked) {
+            let at = change.way.moved(t);
+            if u64::from(from) <= at && at < u64::from(to) {
+                return Some(at as u32);
+            }
+        }
+    }
+    None
+}
+
+/// Whether a timeline may be past its limit between the last look and the next one, where so much is added. A level comes past it at
+/// looks alone, so it is past it where it is at the last one; what is in use of a capacity is looked at nowhere else.
+pub(crate) fn may_be_past(outside: &Outside, last: Option<i64>, added: Added) -> bool {
+    match (outside.side, last) {
+        (Side::Over, _) => true,
+        (_, Some(value)) => is_past(outside.side, outside.limit, value.saturating_add(added.by)),
+        _ => false,
+    }
+}
