@@ -35,7 +35,7 @@ kind talk { duration 5 }";
 const LACKING: &str = "add 1 100;add 2 10 => add 2 30 => [1]
 add 1 100;add 2 10 => shift 2 50 => [1]
 add 1 100;add 2 10 => delete 2 => [1]
-add 1 100;add 1 200;add 2 10 => delete 2 => [2]
+add 1 100;add 1 200;add 2 10 => delete 3 => [2]
 add 1 100;add 1 200 => delete 2 => [1]
 add 1 100;add 1 200 => shift 2 210 => [2]
 add 1 100 => add 1 200 => [2]
