@@ -9,8 +9,7 @@ const BELOW: &str = "add 0 10;goal 1 40 60 must => shift 1 30 => [2]
 add 0 10;goal 1 40 60 must => delete 1 => [1]";
 
 const CAPACITY: &str = "horizon 100 lead 30 capacity cam 10
-kind short { duration 10 use cam 6 }
-kind long { duration 50 use cam 6 }";
+kind short { duration 10 use cam 6 }";
 
 /// Uses that stay above the most, and that do not.
 const ABOVE: &str = "add 0 5;add 0 10 => shift 2 8 => [1]
@@ -75,10 +74,11 @@ add 1 50;add 1 100 => add 1 95 => [0]
 add 2 100;add 1 150 => add 2 50 => [2]
 add 2 100;add 1 150 => add 2 149 => [1]";
 
-/// A use over two others that do not overlap, over the second, and behind both.
-const OVERLAPPED: &str = "add 0 5;add 0 40 => add 1 2 => [2]
-add 0 5;add 0 40 => add 1 15 => [1]
-add 0 5;add 0 40 => add 1 50 => [0]";
+/// Uses that begin within another, and when it has ended.
+const OVERLAPPED: &str = "add 0 5;add 0 40 => add 0 10 => [1]
+add 0 5;add 0 40 => add 0 45 => [1]
+add 0 5;add 0 40 => add 0 15 => [0]
+add 0 5;add 0 40 => add 0 50 => [0]";
 
 /// The warm-up ends 30 moments before the image.
 const PARTNERS: &str = "add 0 50;add 1 100 => 2 30 => Some(140) true
