@@ -33,7 +33,7 @@ pub fn failing<'a>(runs: Runs<'a>, failing: Failing<'a>) -> Runs<'a> {
     Runs { failing, ..runs }
 }
 
-/// Puts a piece so often behind the text, each time with its number in the place of a `#`.
+/// Puts a piece behind the text as many times as is said, each time with its number in the place of a `#`.
 fn push_often(alloc: Global, text: &mut String, piece: &str, times: usize) -> Option<()> {
     if !piece.contains('#') {
         let whole = piece.repeat(alloc, times).ok()?;

@@ -10,8 +10,8 @@ const RUN: Runs<'static> = Runs {
     text: ("", OPEN),
 };
 
-/// Inputs, the status, and the fault of the model; `;` is a newline. A text of 1,048,576 bytes is as long as it may be: that are 44
-/// and as many newlines as are added.
+/// Inputs, the status, and what is written; `;` is a newline, and `^` stands for the text below. The longest text of a model has
+/// 1,048,576 bytes: the 44 of this one, and 1,048,532 newlines.
 const TEXTS: &str = " => 3 => model: no begin;
 horizon 100;lead 30;end; => 3 => model: no begin;
 begin;end; => 3 => model: unexpected at 0;
