@@ -1,4 +1,4 @@
--- What goes and comes adds to a timeline, and up to when.
+-- How much a timeline rises by what goes and what comes, and up to when.
 use Rattle.std.specs.Prelude.{◌≡◌, ℕ, ◌≤◌, ◌<◌, ℤ, ◌-ℤ◌, List}
 use Rattle.pl_semantics.specs.declared.demand.Demand.{Demand}
 use Rattle.pl_semantics.specs.declared.plan_state.PlanState.{PlanState}
@@ -8,7 +8,7 @@ use Rattle.pl_bounds.specs.declared.added.Added.{Added}
 use Rattle.pl_bounds.specs.declared.bounding.Walk.{Walk}
 use Rattle.pl_bounds.specs.declared.outside.Outside.{Outside}
 
--- how much the timeline comes to more at a moment
+-- how much more the timeline comes to at a moment
 abbrev pub added_by : Outside → List Demand → List Demand → ℕ → ℤ
 added_by o going coming t = pull o t coming -ℤ pull o t going
 

@@ -14,7 +14,7 @@ use Rattle.pl_bounds.specs.Windows.{or_one_more}
 use Rattle.pl_bounds.specs.declared.known.Known.{Known}
 use Rattle.pl_bounds.specs.declared.runs.Run.{Run}
 
--- so many conflicts of goals and activities the move leaves at least that starts then
+-- how many conflicts of goals and activities the move that starts then leaves at least
 abbrev pub steady_then : Known → ℕ → ℕ
 steady_then k start = or_one_more k.window start k.steady
 

@@ -10,7 +10,7 @@ use Rattle.pl_bounds.specs.declared.sorting.Part.{Part}
 abbrev pub MakeSameOn : ℕ → List Demand → List Demand → Type 0
 MakeSameOn line ds es = (o : Outside) → o.line ≡ line → MakeSame o ds es
 
--- it makes of its timeline what all makes of it that the move asks for
+-- of its timeline it makes the same as all that the move asks for
 pub record IsPartOf (a : Asking) (p : Part) : Type 0 where
   pub going : MakeSameOn p.line p.going.items a.going.items
   pub coming : MakeSameOn p.line p.coming.items a.coming.items

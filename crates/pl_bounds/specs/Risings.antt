@@ -7,7 +7,7 @@ rise false true = 1
 rise false false = 0
 rise true now = 0
 
--- how often it comes to hold, where it held before these moments or not
+-- how often it comes to hold, given whether it held right before these moments
 abbrev pub risings : (ℕ → Bool) → Bool → List ℕ → ℕ
 risings P before [] = 0
 risings P before (t ∷ more) = rise before (P t) + risings P (P t) more

@@ -55,8 +55,8 @@ HasLimit s o = limit_of o.side (slice_get s.model.timelines o.line) ≡ Some o.l
 abbrev pub spans_past : PlanState → Outside → List Span
 spans_past s o = spans_ahead s (λ t. is_past o.side o.limit (value_at s o.side o.line t))
 
--- it is of this plan: its limit, from when on effects count, what it was seen to come to, by rising moments, and how often it is past its limit
--- at least
+-- All that it holds is right in this plan: its limit, from when on effects count, its looks, which stand by rising moments, and how often it is
+-- past its limit at least.
 pub record IsOutsideOf (s : PlanState) (o : Outside) : Type 0 where
   pub limit : HasLimit s o
   pub since : o.since ≡ since s o.line

@@ -23,7 +23,7 @@ abbrev pub is_off : Option Window → ℕ → Bool
 is_off None start = false
 is_off (Some w) start = nat_lt start w.earliest || nat_lt w.latest start
 
--- with one more outside
+-- one more, where the start is outside
 abbrev pub or_one_more : Option Window → ℕ → ℕ → ℕ
 or_one_more w start n = n + (if is_off w start then 1 else 0)
 

@@ -18,7 +18,7 @@ pub(crate) struct Change<'c> {
     pub(crate) way: Way,
 }
 
-/// So much is added from a moment on and before another.
+/// How much is added at each moment from one on and before another.
 #[derive(Clone, Copy)]
 pub(crate) struct Added {
     pub(crate) by: i64,
@@ -27,7 +27,7 @@ pub(crate) struct Added {
 }
 
 impl Added {
-    /// Of no moment is it known how much is added.
+    /// It is known of no moment how much is added.
     pub(crate) fn unknown() -> Added
         ensures { (o : looked.Outside) (going coming : List asked.Demand) → IsAddedBy o going coming result }
     {
@@ -68,7 +68,7 @@ fn sum_at(outside: &Outside, change: &Change<'_>, t: u32) -> Option<i64>
     coming.checked_sub(going)
 }
 
-// Up to when as much is added as at a moment.
+// Up to when as much is added as at this moment.
 fn until_of(change: &Change<'_>, t: u32) -> u64
     ensures going { (o : looked.Outside) (u : ℕ) → t ≤ u → u < result → pull o u change.now.going.now ≡ pull o t change.now.going.now }
     ensures coming { (o : looked.Outside) (u : ℕ) → t ≤ u → u < result → pull o u (moved_by change.now.way change.now.coming.now) ≡ pull o t (moved_by change.now.way change.now.coming.now) }

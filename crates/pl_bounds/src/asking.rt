@@ -15,7 +15,7 @@ use pl_plan::Activity;
 use pl_semantics::{Demand, PlanState};
 use std::alloc::{AllocError, Global};
 
-/// What goes, and what comes, as the latter stands at a start.
+/// What a move asks for: the demands that go, and those that come. The latter are given as they are at one start, and are shifted for another.
 #[derive(Drop)]
 pub(crate) struct Asking {
     pub(crate) going: Vec<Demand>,
@@ -58,7 +58,7 @@ fn asked_by(alloc: Global, board: &Board, ids: &[u32]) -> Result<Vec<Demand>, Al
     Ok(all)
 }
 
-// Of a deletion, given the ids of the subtree that goes.
+// What a deletion asks for, given the ids of the subtree that goes.
 fn deleted(alloc: Global, board: &Board, subtree: &[u32]) -> Result<Asking, AllocError>
     requires { board.now.spoiled ≡ false }
     ensures { IfOk result (λ a. (id : ℕ) → subtree.now ≡ subtree_of id board.now.state.plan.activities → IsAskingOf board.now.state (Delete id) a) }
@@ -71,7 +71,7 @@ fn deleted(alloc: Global, board: &Board, subtree: &[u32]) -> Result<Asking, Allo
     })
 }
 
-/// Of a deletion, given the ids of the subtree that goes, if it is wanted.
+/// What a deletion asks for, if that is wanted, given the ids of the subtree that goes.
 pub(crate) fn deleted_if(
     alloc: Global,
     board: &Board,
@@ -89,7 +89,7 @@ pub(crate) fn deleted_if(
     }
 }
 
-// The start of the activity of this id; 0 where there is none.
+// The start of the activity of this id, or 0 if there is none.
 fn start_at(s: &PlanState, id: u32) -> u32
     ensures { IfSome (found s.now id) (λ a. result ≡ a.start) }
 {
@@ -99,7 +99,7 @@ fn start_at(s: &PlanState, id: u32) -> u32
     }
 }
 
-// Of a shift to any start, given the ids of the subtree that moves.
+// What a shift to any start asks for, given the ids of the subtree that moves.
 fn shifted(alloc: Global, board: &Board, id: u32, subtree: &[u32]) -> Result<Asking, AllocError>
     requires unspoiled { board.now.spoiled ≡ false }
     requires next { board.now.state.next_id ≤ 3999999000 }
@@ -117,7 +117,7 @@ fn shifted(alloc: Global, board: &Board, id: u32, subtree: &[u32]) -> Result<Ask
     })
 }
 
-/// Of a shift to any start, given the ids of the subtree that moves, if it is wanted.
+/// What a shift to any start asks for, if that is wanted, given the ids of the subtree that moves.
 pub(crate) fn shifted_if(
     alloc: Global,
     board: &Board,
@@ -139,7 +139,7 @@ pub(crate) fn shifted_if(
     }
 }
 
-/// Of an addition, given the new root alone in a plan of its own.
+/// What an addition asks for, given the new root alone in a plan of its own.
 pub(crate) fn added(alloc: Global, alone: &PlanState, start: u32) -> Result<Asking, AllocError>
     requires { IsWhole alone.now }
     ensures going { IfOk result (λ a. a.going.items ≡ []) }

@@ -36,8 +36,8 @@ fn looked_at(tally: Tally, outside: &Outside, added: Added, look: Look) -> Tally
     }
 }
 
-// The tally with a look before a moment at which what comes makes it worse, if there is one. Where it is past its limit already that
-// would tell nothing new.
+// The tally with one look more, before this moment, if what comes makes the timeline worse at one there. If the timeline is past its limit
+// already, that would tell nothing new.
 fn looked_before(
     board: &Board,
     tally: Tally,
@@ -122,7 +122,7 @@ fn gone_anew(board: &Board, walk: Walk, outside: &Outside, change: &Change<'_>, 
     }
 }
 
-// Goes on to a look. Between two of them at which as much is added nothing grows worse.
+// Notes a look. If as much is added there as at the look before, the moments between need no look.
 fn gone_to(board: &Board, walk: Walk, outside: &Outside, change: &Change<'_>, look: Look) -> Walk
     requires unspoiled { board.now.spoiled ≡ false }
     requires of_plan { IsOutsideOf board.now.state outside.now }
@@ -142,7 +142,7 @@ fn is_steady(walk: Walk) -> bool {
     u64::from(walk.tally.end) <= walk.added.until
 }
 
-// How often at least the timeline is past its limit, once all looks are passed. Where as much is added up to the end nothing grows worse.
+// How often at least the timeline is past its limit, once all looks are noted. If as much is added up to the end, the rest needs no look.
 fn times_behind(board: &Board, walk: Walk, outside: &Outside, change: &Change<'_>) -> u32
     requires unspoiled { board.now.spoiled ≡ false }
     requires of_plan { IsOutsideOf board.now.state outside.now }
@@ -184,7 +184,7 @@ fn is_nothing(change: &Change<'_>) -> bool
     change.going.is_empty() && change.coming.is_empty()
 }
 
-// The same where nothing may bear on it: it is past its limit as often as it is now.
+// The same. If nothing that goes or comes concerns this timeline, it is past its limit as often as it is now.
 fn times_by(board: &Board, ahead: Tally, outside: &Outside, change: &Change<'_>) -> u32
     requires unspoiled { board.now.spoiled ≡ false }
     requires of_plan { IsOutsideOf board.now.state outside.now }
@@ -203,7 +203,7 @@ fn is_out_of_reach(outside: &Outside, parts: &[Part]) -> bool {
     outside.is_clear() || outside.times == 0 && !bears_on(parts, outside.line)
 }
 
-// The same once what is asked stands at a start, and what goes is gone.
+// The same once what goes is gone, and what comes stands at this start.
 fn times_with(
     board: &Board,
     ahead: Tally,
@@ -232,7 +232,8 @@ fn times_with(
     times_by(board, ahead, outside, &change)
 }
 
-/// How often at least the timelines are past their limits once what is asked stands at a start, and what goes is gone, given its parts.
+/// How often at least the timelines are past their limits once what goes is gone, and what comes stands at this start. `parts` is what the move
+/// asks for, sorted by timeline.
 pub(crate) fn past_after(
     board: &Board,
     outsides: &[Outside],

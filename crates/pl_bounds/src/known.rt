@@ -35,7 +35,7 @@ pub(crate) struct Known {
 }
 
 impl Known {
-    /// So many conflicts of goals and activities the move leaves at least that starts then.
+    /// How many conflicts of goals and activities the move that starts then leaves at least.
     pub(crate) fn steady_at(&self, start: u32) -> u32
         ensures { result ≤ steady_then self.now start }
     {
@@ -43,7 +43,7 @@ impl Known {
     }
 }
 
-// Of the addition of a root, which is made once, alone in a plan of its own.
+// What is known of the addition of a root. The root is made once, alone in a plan of its own.
 fn known_of_new(
     alloc: Global,
     s: &PlanState,
@@ -72,7 +72,7 @@ fn known_of_new(
     })
 }
 
-// Of a deletion.
+// What is known of a deletion.
 fn known_of_deletion(
     alloc: Global,
     board: &Board,
@@ -101,7 +101,7 @@ fn known_of_deletion(
     })
 }
 
-// Of a shift.
+// What is known of a shift.
 fn known_of_shift(
     alloc: Global,
     board: &Board,
@@ -132,7 +132,7 @@ fn known_of_shift(
     })
 }
 
-// Of any other move nothing is looked up.
+// What is known of any other move, for which nothing is looked up.
 fn known_of_other(mv: &RepairMove, steady: u32) -> Known
     ensures { result ≡ only_steady mv.now steady }
 {

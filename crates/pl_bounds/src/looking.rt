@@ -1,4 +1,4 @@
-//! Looks at a timeline where it is past its limit, and a moment before and behind.
+//! Looks at a timeline where it is past its limit, and right before and after that.
 ghost use Rattle.std.specs.Prelude.{◌≡◌, false, IfOk, OnOk};
 ghost use Rattle.pl_bounds.specs.Looks.{IsLimited, AreLooksAt};
 ghost use Rattle.pl_bounds.specs.Sides.{code_of, value_at};
@@ -13,7 +13,7 @@ use std::alloc::{AllocError, Global};
 // Of one bar at most so many crossings are looked at.
 const CROSSINGS: u32 = 8;
 
-/// Looks by rising moments, and the first moment behind them.
+/// Looks by rising moments, and the first moment after them.
 #[derive(Drop)]
 pub(crate) struct Looking {
     pub(crate) looks: Vec<Look>,
@@ -31,7 +31,7 @@ fn code_of(side: Side) -> Code
 }
 
 impl Looking {
-    // Looks at a moment, if it lies ahead and behind those that were looked at.
+    // Looks at a moment, if it lies after those that were looked at, and before the horizon.
     fn look(&mut self, board: &Board, side: Side, line: u32, at: u32) -> Result<(), AllocError>
         requires unspoiled { board.now.spoiled ≡ false }
         requires limited { IsLimited board.now.state side line }

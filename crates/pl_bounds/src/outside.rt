@@ -111,7 +111,7 @@ fn outside_with(
     })
 }
 
-// The same where it has a limit on this side.
+// The same, if it has a limit on this side.
 fn outside_at(
     alloc: Global,
     board: &Board,

@@ -70,7 +70,7 @@ fn parts_for(
     }
 }
 
-/// Begins a run with its first move. Limits that it may pass are put behind those that are looked at.
+/// What is known of the moves that place the same activities as this first one. Limits that it may pass are put behind those that are looked at.
 pub(crate) fn run_of(
     alloc: Global,
     board: &Board,
@@ -94,7 +94,7 @@ pub(crate) fn run_of(
     Ok(Run { known, parts })
 }
 
-/// The run that this move goes on with, if there is one: the last one is looked at first.
+/// What is known of moves that place the same activities as this one, if there is any: the last of the list is asked first.
 pub(crate) fn run_like<'r>(runs: &'r [Run], mv: &RepairMove) -> Option<&'r Run>
     ensures alike { IfSome result (λ r. IsAlike r.now.known.first mv.now) }
     ensures of_plan { (s : PlanState) → All (IsRunOf s) runs.now → IfSome result (λ r. IsRunOf s r.now) }

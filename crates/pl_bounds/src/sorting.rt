@@ -74,7 +74,7 @@ fn part_on<'p>(parts: &'p [Part], line: u32) -> Option<&'p Part>
     None
 }
 
-// With the part of a timeline that is looked at, if it is not there.
+// Adds the part of a timeline that is looked at, if it is not there.
 fn add_part(
     alloc: Global,
     asking: &Asking,
@@ -92,7 +92,7 @@ fn add_part(
     Ok(())
 }
 
-/// The parts of all timelines that are looked at. None where nothing comes: such a move is the only one of its run.
+/// The parts of all timelines that are looked at. None if nothing comes, since no other move places the same activities at another start.
 pub(crate) fn parts_of(
     alloc: Global,
     outsides: &[Outside],

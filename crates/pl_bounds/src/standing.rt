@@ -61,7 +61,7 @@ pub(crate) fn is_plain(code: Code) -> bool
     )
 }
 
-/// One more, if it is one; the count stands still at its type's end.
+/// One more, if it is one. A count that has reached the end of its type stays as it is.
 pub(crate) fn count_if(is_one: bool, count: u32) -> u32
     ensures { result ≤ count + (if is_one then 1 else 0) }
 {

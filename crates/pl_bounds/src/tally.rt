@@ -4,8 +4,8 @@ ghost use Rattle.pl_points.specs.Spans.{spans_of};
 ghost use Rattle.pl_bounds.specs.Risings.{rise};
 ghost use Rattle.pl_bounds.specs.Tallies.{fresh, IsTallyOf};
 
-/// How often a property came to hold, by rising moments, and whether it held at the last of them. The next moment is this one at
-/// the earliest, and lies before the end.
+/// How often a property came to hold, by rising moments, and whether it held at the last of them (`before`). The next moment to be noted lies
+/// from `next` on and before `end`.
 #[derive(Clone, Copy)]
 pub(crate) struct Tally {
     pub(crate) times: u32,
@@ -27,7 +27,7 @@ fn rise(before: bool, holds: bool) -> u32
 }
 
 impl Tally {
-    /// Of no moment so far.
+    /// The tally of no moment so far.
     pub(crate) fn new(from: u32, end: u32) -> Tally
         ensures value { result ≡ fresh from end }
         ensures tally { (P : ℕ → Bool) → from ≤ end → IsTallyOf P from end result }
@@ -40,7 +40,7 @@ impl Tally {
         }
     }
 
-    /// With whether it holds at a moment, if that one is in turn.
+    /// Notes whether the property holds at a moment, if this moment lies from `next` on and before `end`.
     pub(crate) fn noted(self, at: u32, holds: bool) -> Tally
         ensures { (P : ℕ → Bool) (from end : ℕ) → P at ≡ holds → IsTallyOf P from end self → IsTallyOf P from end result }
     {

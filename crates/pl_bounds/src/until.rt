@@ -11,7 +11,7 @@ use pl_capacity::Use;
 use pl_level::Effect;
 use pl_semantics::{Asked, Demand};
 
-// Behind every moment.
+// After every moment.
 const EVER: u64 = u64::MAX;
 
 fn use_lasts(asked: Use, way: Way, t: u32) -> u64
@@ -47,7 +47,7 @@ fn demand_lasts(demand: &Demand, way: Way, t: u32) -> u64
     }
 }
 
-/// The moment from a moment on before which all of them, moved along, make the same of whichever timeline they ask for.
+/// Up to which moment, from this one on, the demands, shifted, make the same of each timeline that they ask for.
 pub(crate) fn lasts(demands: &[Demand], way: Way, t: u32) -> u64
     ensures { (o : looked.Outside) (u : ℕ) → t ≤ u → u < result → pull o u (moved_by way demands.now) ≡ pull o t (moved_by way demands.now) }
 {

@@ -12,7 +12,7 @@ pub(crate) struct Window {
     pub(crate) latest: u32,
 }
 
-/// That of the goal which the activity of this id serves, if it serves one.
+/// The window of the goal that the activity of this id serves, if it serves one.
 pub(crate) fn window_of(s: &PlanState, id: u32) -> Option<Window>
     ensures { IfSome result (λ w. IsWindowOf s.now id w) }
 {
@@ -23,7 +23,7 @@ pub(crate) fn window_of(s: &PlanState, id: u32) -> Option<Window>
     })
 }
 
-/// Whether a start is outside, where there is a window.
+/// Whether there is a window and the start lies outside it.
 pub(crate) fn is_off(window: Option<Window>, start: u32) -> bool
     ensures { result ≡ is_off window start }
 {

@@ -58,7 +58,7 @@ fn widen_by(
     }
 }
 
-/// With the limits that some demands may pass.
+/// Adds the limits that some demands may pass.
 pub(crate) fn widen(
     alloc: Global,
     board: &Board,

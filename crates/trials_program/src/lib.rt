@@ -16,4 +16,6 @@ mod program;
 #[cfg(test)]
 mod running;
 #[cfg(test)]
+mod tables;
+#[cfg(test)]
 mod worked;

@@ -11,7 +11,6 @@ mod journals;
 mod limits;
 mod messages;
 mod plans;
-mod prefaces;
 mod texts;
 mod until_and_halt;
 mod windows;

@@ -37,17 +37,13 @@ pub fn joined(rt: &impl Abort, alloc: Global, front: &str, rest: &[u8]) -> Vec<u
 
 /// The two sides of a row, which ` => ` parts; the second is empty where nothing parts them.
 pub fn sides(row: &str) -> (&str, &str) {
-    row.split_once(" => ").unwrap_or((row, ""))
+    let (front, rest) = row.split_once(" =>").unwrap_or((row, ""));
+    (front, rest.strip_prefix(' ').unwrap_or(rest))
 }
 
 /// The text with a newline behind it.
 pub fn line_of(rt: &impl Abort, alloc: Global, text: &str) -> String {
     format!(in alloc; "{text}\n").expect(rt, "memory")
-}
-
-/// The text with a newline for each `;`.
-pub fn lines(rt: &impl Abort, alloc: Global, text: &str) -> String {
-    text.replace(alloc, ";", "\n").expect(rt, "memory")
 }
 
 pub fn count_newlines(bytes: &[u8]) -> usize {
@@ -113,8 +109,7 @@ pub fn assert_does<R: Abort + Threads + Wait + Sync>(
     text: &[u8],
 ) {
     let (found, sink) = does(rt, alloc, words, input, failing, &NoGate);
-    assert!(rt; found == status, "{words}: {found}");
-    holds(rt, words, sink.bytes() == text);
+    holds(rt, words, found == status && sink.bytes() == text);
 }
 
 /// Asserts that these words end with this status over this input and write this one line.

@@ -1,6 +1,7 @@
 //! The demonstration: its input, its one line, and its statuses.
 use crate::asserting::holds;
-use crate::running::{assert_does, assert_says, count_newlines};
+use crate::running::{NONE, assert_says, count_newlines};
+use crate::tables::{Runs, assert_tables, failing};
 use pl_report::demo_input;
 use std::alloc::Global;
 use std::process::Abort;
@@ -23,13 +24,14 @@ tick 40
 end
 ";
 
+/// What is said of words that ask for nothing.
 const USAGE: &str =
-    "usage: run solo N | run pair N SEED | check | replay | report | demo N | run crew N P SEED | flex ID | forecast | improve N";
+    "usage: run solo N | run pair N SEED | check | replay | report | demo N | run crew N P SEED | flex ID | forecast | improve N;";
 
-#[test]
-fn makes_the_worked_input(rt: HostRuntime) {
-    let input = demo_input(rt.alloc(), 2).expect(&rt, "memory");
-    holds(&rt, "the input", input.as_slice() == INPUT.as_bytes());
+/// Asserts that the input of two goals is the worked one.
+fn assert_worked(rt: &impl Abort, alloc: Global) {
+    let input = demo_input(alloc, 2).expect(rt, "memory");
+    holds(rt, "the input", input.as_slice() == INPUT.as_bytes());
 }
 
 /// Asserts that the input of so many goals has its lines, and a model.
@@ -44,33 +46,35 @@ fn assert_made<R: Abort + Threads + Wait + Sync>(rt: &R, alloc: Global, goals: u
 
 #[test]
 fn makes_inputs(rt: HostRuntime) {
+    assert_worked(&rt, rt.alloc());
     for goals in [1, 2, 7, 64] {
         assert_made(&rt, rt.alloc(), goals);
     }
 }
 
-const SUMMARIES: &str = "demo 1 entries 11 activities 1 dispatched 0 conflicts 0
-demo 2 entries 20 activities 4 dispatched 0 conflicts 0
-demo 3 entries 28 activities 5 dispatched 0 conflicts 0
-demo 10 entries 88 activities 20 dispatched 0 conflicts 0
-demo 30 entries 287 activities 60 dispatched 29 conflicts 0";
+const WORDS: Runs<'static> = Runs {
+    words: "",
+    failing: NONE,
+    input: ("", ""),
+    text: ("", USAGE),
+};
+
+/// Words, no input, and what is said of them.
+const SAID: &str = "demo 1 =>  => 0 => demo 1 entries 11 activities 1 dispatched 0 conflicts 0;
+demo 2 =>  => 0 => demo 2 entries 20 activities 4 dispatched 0 conflicts 0;
+demo 3 =>  => 0 => demo 3 entries 28 activities 5 dispatched 0 conflicts 0;
+demo 10 =>  => 0 => demo 10 entries 88 activities 20 dispatched 0 conflicts 0;
+demo 30 =>  => 0 => demo 30 entries 287 activities 60 dispatched 29 conflicts 0;
+run solo 0 =>  => 2 => ^
+demo 0 =>  => 2 => ^
+demo 4001 =>  => 2 => ^
+demo =>  => 2 => ^
+ =>  => 2 => ^";
+
+const UNWRITTEN: &str = "demo 1 =>  => 5 =>";
 
 #[test]
 fn shows_summaries(rt: HostRuntime) {
-    for line in SUMMARIES.lines() {
-        let (words, _) = line.split_once(" entries").unwrap_or((line, ""));
-        assert_says(&rt, rt.alloc(), words, b"", 0, line);
-    }
-}
-
-#[test]
-fn refuses_other_words(rt: HostRuntime) {
-    for words in ["run solo 0", "demo 0", "demo 4001", "demo", ""] {
-        assert_says(&rt, rt.alloc(), words, b"", 2, USAGE);
-    }
-}
-
-#[test]
-fn stops_at_a_failed_write(rt: HostRuntime) {
-    assert_does(&rt, rt.alloc(), "demo 1", (&[], &[1]), b"", 5, b"");
+    let tables = [(WORDS, SAID), (failing(WORDS, (&[], &[1])), UNWRITTEN)];
+    assert_tables(&rt, rt.alloc(), &tables);
 }

@@ -1,5 +1,6 @@
 //! Forecasts: what the rates before a journal come to, and what is refused there.
-use crate::program::prefaces::{Setting, assert_answers, assert_repeated, assert_row};
+use crate::running::NONE;
+use crate::tables::{Runs, assert_tables, failing};
 
 /// A battery that holds 20 and may hold 0 to 50, and a kind.
 const MODEL: &str = "horizon 100
@@ -18,45 +19,41 @@ const ENTRIES: &str = "0 open turns 8 live 10000 goals 20000 entries 250000
 3 rest clear
 ";
 
-/// The lines behind `begin`, the status, and what is written. A `;` stands for a newline. The entries follow a line `journal`.
-const ROWS: &str = "rate obs bat -5;journal; => 0 => forecast spans 1;low bat 15 100;
-rate obs bat -5;drift bat 1;journal; => 0 => forecast spans 1;high bat 56 100;
-;drift bat 3; # a comment;;\tdrift bat - 3;journal # the journal; => 0 => forecast spans 0;
-journal; => 0 => forecast spans 0;
-rate obs cam 1;journal; => 3 => rate: line 8: unknown name;
-drift bat 1;;rate obs bat;journal; => 3 => rate: line 10: bad line;
-drift bat 1000001;journal; => 3 => rate: line 8: out of range;
-journal 1;journal; => 3 => rate: line 8: bad line;
-begin;journal; => 3 => rate: line 8: bad line;
+/// The lines behind `begin`, the status, and what is written. A `;` stands for a newline, a `^` for the entries.
+const ROWS: &str = "rate obs bat -5;journal;^ => 0 => forecast spans 1;low bat 15 100;
+rate obs bat -5;drift bat 1;journal;^ => 0 => forecast spans 1;high bat 56 100;
+;drift bat 3; # a comment;;\tdrift bat - 3;journal # the journal;^ => 0 => forecast spans 0;
+journal;^ => 0 => forecast spans 0;
+rate obs cam 1;journal;^ => 3 => rate: line 8: unknown name;
+drift bat 1;;rate obs bat;journal;^ => 3 => rate: line 10: bad line;
+drift bat 1000001;journal;^ => 3 => rate: line 8: out of range;
+journal 1;journal;^ => 3 => rate: line 8: bad line;
+begin;journal;^ => 3 => rate: line 8: bad line;
 drift bat 1; => 3 => rate: no journal;
  => 3 => rate: no journal;
-journal;journal; => 8 => journal: entry 0: not a line;";
+journal;journal;^ => 8 => journal: entry 0: not a line;
+64*drift bat 1;~journal;^ => 0 => forecast spans 1;high bat 1 100;
+65*drift bat 1;~journal;^ => 3 => rate: line 72: too many;
+64*drift bat 1;~drift;journal;^ => 3 => rate: line 72: bad line;";
 
-const FORECAST: Setting<'static> = ("forecast", MODEL, ENTRIES);
+const FORECAST: Runs<'static> = Runs {
+    words: "forecast",
+    failing: NONE,
+    input: (MODEL, ENTRIES),
+    text: ("", ""),
+};
+
+const UNREAD: &str = "journal;^ => 4 =>";
+
+const UNWRITTEN: &str = "journal;^ => 5 =>
+drift;journal;^ => 5 =>";
 
 #[test]
 fn foretells(rt: HostRuntime) {
-    for row in ROWS.lines() {
-        assert_row(&rt, rt.alloc(), FORECAST, row);
-    }
-}
-
-#[test]
-fn takes_64_rates(rt: HostRuntime) {
-    let alloc = rt.alloc();
-    let drift = "drift bat 1;";
-    let high = "forecast spans 1;high bat 1 100;";
-    assert_repeated(&rt, alloc, FORECAST, (drift, 64), "journal;", 0, high);
-    let many = "rate: line 72: too many;";
-    assert_repeated(&rt, alloc, FORECAST, (drift, 65), "journal;", 3, many);
-    let bad = "rate: line 72: bad line;";
-    assert_repeated(&rt, alloc, FORECAST, (drift, 64), "drift;journal;", 3, bad);
-}
-
-#[test]
-fn tells_of_faults(rt: HostRuntime) {
-    let alloc = rt.alloc();
-    assert_answers(&rt, alloc, FORECAST, (&[1], &[]), "journal;", 4, "");
-    assert_answers(&rt, alloc, FORECAST, (&[], &[1]), "journal;", 5, "");
-    assert_answers(&rt, alloc, FORECAST, (&[], &[1]), "drift;journal;", 5, "");
+    let tables = [
+        (FORECAST, ROWS),
+        (failing(FORECAST, (&[1], &[])), UNREAD),
+        (failing(FORECAST, (&[], &[1])), UNWRITTEN),
+    ];
+    assert_tables(&rt, rt.alloc(), &tables);
 }
