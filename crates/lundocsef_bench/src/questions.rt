@@ -1,16 +1,16 @@
 //! Questions: how many conflicts a move leaves at least, known without making it.
-ghost use Rattle.std.specs.Prelude.{◌≡◌, ◌≤◌, false, All, IfOk};
+ghost use Rattle.std.specs.Prelude.{◌≡◌, ◌≤◌, true, false, All, IfOk};
 ghost use Rattle.pl_moves.specs.Runs.{CanBeMade};
 ghost use Rattle.lundocsef_bench.specs.Questions.{CanBeAsked};
 
 use crate::answers::{Answer, Tally, tally_of};
-use crate::boards::{can_try, filled};
+use crate::boards::filled;
 use anyhow::{Result, bail};
 use pl_board::Board;
 use pl_bounds::least_of_each;
 use pl_cand::candidates;
 use pl_conflict::Conflict;
-use pl_moves::legal;
+use pl_moves::{legal, proper};
 use pl_plan::RepairMove;
 use std::alloc::{AllocError, Global};
 use std::time::CpuClock;
@@ -21,6 +21,22 @@ pub struct Question {
     pub moves: Vec<RepairMove>,
 }
 
+// How many conflicts stand, what was found of the answers, and how many nanoseconds of the processor each of them took.
+#[derive(Clone, Copy)]
+struct Found {
+    conflicts: usize,
+    tally: Tally,
+    nanos: u128,
+}
+
+// Whether a move is proper, and nothing refuses it.
+fn can_make(board: &Board, mv: &RepairMove) -> bool
+    requires { board.now.spoiled ≡ false }
+    ensures { result ≡ true → CanBeMade board.now.state mv.now }
+{
+    proper(board, mv) && legal(board, mv).is_ok()
+}
+
 fn question_of(alloc: Global, board: &Board, conflict: &Conflict) -> Result<Question, AllocError>
     requires { board.now.spoiled ≡ false }
     ensures { IfOk result (CanBeAsked board.now.state) }
@@ -28,7 +44,7 @@ fn question_of(alloc: Global, board: &Board, conflict: &Conflict) -> Result<Ques
     let tried = candidates(alloc, board, conflict)?;
     let mut moves = Vec::with_capacity(alloc, tried.len())?;
     'moves: for mv in &tried {
-        if can_try(board, mv) && legal(board, mv).is_ok() {
+        if can_make(board, mv) {
             moves.push(*mv)?;
         }
     }
@@ -115,24 +131,40 @@ fn answers_to(
     Ok(answers)
 }
 
-// Says what was found and, if asked, how many nanoseconds an answer took.
-fn show(
-    rt: &impl Print,
-    live: u32,
-    conflicts: usize,
-    found: Tally,
-    nanos: Option<u128>,
-) -> Result<()> {
+// Asks each question so many times. Answers how many conflicts stand, what was found of the answers, and how many nanoseconds of the
+// processor each of them took.
+fn ask(rt: &impl CpuClock, alloc: Global, board: &mut Board, rounds: u32) -> Result<Found> {
+    if board.spoiled() || 3_999_999_000 < board.next_id() {
+        bail!("the board may not be asked");
+    }
+    let questions = questions_of(alloc, board)?;
+    let nanos = measure(rt, alloc, board, &questions, rounds)?;
+    let answers = answers_to(alloc, board, &questions)?;
+    let tally = tally_of(alloc, board, &answers)?;
+    let count = tally.asked.saturating_mul(rounds).max(1);
+    Ok(Found {
+        conflicts: questions.len(),
+        tally,
+        nanos: nanos / u128::from(count),
+    })
+}
+
+fn show(rt: &impl Print, live: u32, found: Found, is_timed: bool) -> Result<()> {
+    let Found {
+        conflicts,
+        tally,
+        nanos,
+    } = found;
     let Tally {
         asked,
         too_high,
         exact,
-    } = found;
+    } = tally;
     let word = if too_high == 0 { "none" } else { "SOME" };
     rt.println(format_args!(
         "question: {live} activities, {conflicts} conflicts, {asked} moves that may repair one, {word} leaves fewer than was told"
     ))?;
-    if let Some(nanos) = nanos {
+    if is_timed {
         rt.println(format_args!(
             "question: {nanos} ns for each move, {exact} answers are exactly what the move leaves"
         ))?;
@@ -152,14 +184,6 @@ pub fn run(
     requires { count ≤ 1000 }
 {
     let (mut board, _) = filled(alloc, count)?;
-    if board.spoiled() || 3_999_999_000 < board.next_id() {
-        bail!("the board may not be asked");
-    }
-    let questions = questions_of(alloc, &board)?;
-    let nanos = measure(rt, alloc, &board, &questions, rounds)?;
-    let answers = answers_to(alloc, &board, &questions)?;
-    let found = tally_of(alloc, &mut board, &answers)?;
-    let each = nanos / u128::from(found.asked.saturating_mul(rounds).max(1));
-    let each = if is_timed { Some(each) } else { None };
-    show(rt, board.plan().len(), questions.len(), found, each)
+    let found = ask(rt, alloc, &mut board, rounds)?;
+    show(rt, board.plan().len(), found, is_timed)
 }
