@@ -1,5 +1,6 @@
 //! Boards that moves fill, group by group.
-ghost use Rattle.std.specs.Prelude.{◌≤◌, ◌<◌};
+ghost use Rattle.std.specs.Prelude.{◌≡◌, ◌≤◌, ◌<◌, true, false};
+ghost use Rattle.pl_semantics.specs.Moves.{is_proper};
 
 use crate::places::place_of;
 use anyhow::{Result, bail};
@@ -57,8 +58,17 @@ fn empty(alloc: Global, groups: u32) -> Result<Board>
     }
 }
 
+/// Whether a board may be asked about a move, and whether the move is proper.
+pub fn can_try(board: &Board, mv: &RepairMove) -> bool
+    ensures unspoiled { result ≡ true → board.now.spoiled ≡ false }
+    ensures next { result ≡ true → board.now.state.next_id ≤ 3999999000 }
+    ensures proper { result ≡ true → is_proper board.now.state mv.now ≡ true }
+{
+    !board.spoiled() && board.next_id() <= 3_999_999_000 && proper(board, mv)
+}
+
 fn make(alloc: Global, board: &mut Board, mv: &RepairMove) -> Result<()> {
-    if board.spoiled() || 3_999_999_000 < board.next_id() || !proper(board, mv) {
+    if !can_try(board, mv) {
         bail!("a move makes no sense");
     }
     apply(alloc, board, mv, &mut Steps::new(Quiet))?;

@@ -1,14 +1,16 @@
-//! Benchmarks, one for each word: `timelines`, `replace`, `turns`.
+//! Benchmarks, one for each word: `timelines`, `replace`, `question`, `turns`.
 //! Without a word each makes little and says what it found, with no times.
 #![tactic(auto)]
 
 ghost use Rattle.std.specs.Prelude.{◌≤◌};
 ghost use Rattle.lundocsef_bench.specs.Sizes.{CanTry};
 
+mod answers;
 mod boards;
 mod capacities;
 mod levels;
 mod places;
+mod questions;
 mod replaces;
 mod report;
 mod states;
@@ -98,6 +100,11 @@ fn measure_replacements(rt: &(impl Print + CpuClock), alloc: Global) -> Result<(
     replaces::run(rt, alloc, 1_000, true)
 }
 
+fn measure_questions(rt: &(impl Print + CpuClock), alloc: Global) -> Result<()> {
+    questions::run(rt, alloc, 125, 16, true)?;
+    questions::run(rt, alloc, 1_000, 2, true)
+}
+
 /// Makes a few changes of each timeline.
 fn show_timelines(rt: &(impl Print + CpuClock), alloc: Global) -> Result<()> {
     try_capacity(rt, alloc, 50, 6, 50, false)?;
@@ -111,6 +118,7 @@ fn show_all<R: Print + Clock + CpuClock + Threads + Wait + Sync>(
 ) -> Result<()> {
     show_timelines(rt, alloc)?;
     replaces::run(rt, alloc, 5, false)?;
+    questions::run(rt, alloc, 5, 1, false)?;
     turns::run(rt, alloc, 500, false)
 }
 
@@ -122,8 +130,11 @@ fn run<R: Print + Clock + CpuClock + Threads + Wait + Sync>(
     match word {
         "timelines" => measure_timelines(rt, alloc),
         "replace" => measure_replacements(rt, alloc),
+        "question" => measure_questions(rt, alloc),
         "turns" => turns::run(rt, alloc, 200_000, true),
-        _ => Ok(rt.println(format_args!("usage: lundocsef_bench [timelines | replace | turns]"))?),
+        _ => Ok(rt.println(format_args!(
+            "usage: lundocsef_bench [timelines | replace | question | turns]"
+        ))?),
     }
 }
 
