@@ -357,7 +357,7 @@ pub parts_most : (bs : List (List Point)) → AreFull 33 bs → length bs ≤ 2 
 parts_most bs full = omega (arith, count_least 33 bs full)
 
 -- sums before a moment of points that do not all lie before it
-below_append : (at : ℕ) (xs ys : List Point) → sum_below (xs ++ ys) at ≡ sum_below xs at +ℤ sum_below ys at
+pub below_append : (at : ℕ) (xs ys : List Point) → sum_below (xs ++ ys) at ≡ sum_below xs at +ℤ sum_below ys at
 below_append at [] ys = omega (arith, ints)
 below_append at (x ∷ xs) ys = omega (arith, ints, below_append at xs ys)
 
