@@ -277,8 +277,3 @@ begun_blocks new sum at d whole sized few small is = record {
 
 pub from_next : (i : ℕ) (bs : List (List Point)) → drop (i + 1) bs ≡ drop (suc i) bs
 from_next i bs = let same : i + 1 ≡ suc i = omega arith in ap (λ n. drop n bs) same
-
--- what holds in either case
-pub three : {T E : Type 0} {A B C D F : Type 0} (r : Result T E) → OnOk r A → OnOk r B → OnOk r C → OnErr r D → (A → B → C → F) → (D → F) → F
-three (Ok x) a b c d f g = f a b c
-three (Err e) a b c d f g = g d

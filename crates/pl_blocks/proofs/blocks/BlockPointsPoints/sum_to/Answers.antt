@@ -19,7 +19,8 @@ returns-then-place-len-clause-sum g c =
     let before : take i bs ≡ front (is_past at) bs = rw c.deref.ensures.value at c.past_near-place.ensures.before in
     let rest : drop i bs ≡ back (is_past at) bs = rw c.deref.ensures.value at c.past_near-place.ensures.rest in
     let so_far : c.sum_before-before.result ≡ change_of (together (take i bs)) = c.sum_before-before.ensures.sum ∙ ap (λ l. change_of (together (take i l))) c.deref-2.ensures.value in
-    so_far ∙ sym (sum_nowhere at i bs before (omega (arith, c.if-place-len.true, c.len.ensures, c.deref.ensures.len, ap length c.deref.ensures.value))) ∙ ap (λ l. sum_to (together l) at) c.self.view_is
+    let raw = ap (λ z. to_z w64 (of_z w64 z)) so_far ∙ small_is (change_of (together (take i bs))) (small_before i bs c.self.invariant.points) in
+    raw ∙ sym (sum_nowhere at i bs before (omega (arith, c.if-place-len.true, c.len.ensures, c.deref.ensures.len, ap length c.deref.ensures.value))) ∙ ap (λ l. sum_to (together l) at) c.self.view_is
 
 pub overflow_add-result : goal.overflow_add-result
 overflow_add-result g c =
