@@ -12,7 +12,7 @@ use Rattle.pl_points.specs.Sums.{IsSmall}
 use Rattle.pl_points.specs.Points.{Point, sum_below, is_before, put, merged, RiseFrom, SmallFrom, AreNear, ArePoints}
 use Rattle.pl_points.proofs.Parting.{NonePass, IsParted, back_fails, drop_next}
 use Rattle.pl_points.proofs.PointLists.{small_along, rising_later, small_near, rising_drop}
-use Rattle.pl_points.proofs.Outside.{back_le, below_none, small_back}
+use Rattle.pl_points.proofs.Outside.{back_le, below_none}
 use Rattle.pl_points.proofs.Totals.{total-push}
 use mir.Val.{to_z, of_z, SFits}
 use mir.Syntax.{w64}

@@ -209,11 +209,7 @@ impl Copied for Block {
 }
 
 // How many of the points lie before the moment, and what they add up to.
-fn passed<L: Ledger>(
-    points: &[(u32, i64)],
-    at: u64,
-    steps: &mut Steps<L>,
-) -> (usize, i64)
+fn passed<L: Ledger>(points: &[(u32, i64)], at: u64, steps: &mut Steps<L>) -> (usize, i64)
     requires rising { RiseFrom 0 points.now }
     requires near { AreNear (pos 0) points.now }
     ensures bound { result.0 ≤ length points.now }

@@ -1,4 +1,4 @@
-use Rattle.std.proofs.Common.{◌≡◌, ◌<◌, ◌≤◌, ◌+◌, ◌-◌, ℕ, arith, ap, sym, ◌∙◌, refl, subst, length, get_or, take, drop, pos, ◌+ℤ◌, ◌-ℤ◌, true, false}
+use Rattle.std.proofs.Common.{◌≡◌, ◌<◌, ◌≤◌, ◌+◌, ◌-◌, arith, ◌∙◌, length, get_or, pos}
 use mir.Val.{to_z}
 use mir.Syntax.{w64}
 use Rattle.std.proofs.lemmas.Bool.{le-ltb}
