@@ -1,4 +1,4 @@
-ghost use Rattle.std.specs.Prelude.{◌≡◌, ◌<◌, ◌≤◌, ◌+◌, ◌-◌, pos, ◌+ℤ◌, length, get_or, take, drop, OnOk, OnErr, IfOk};
+ghost use Rattle.std.specs.Prelude.{◌≡◌, ◌<◌, ◌≤◌, ◌+◌, ◌-◌, pos, ◌+ℤ◌, true, false, is_some, length, get_or, take, drop, OnOk, OnErr, IfOk};
 ghost use Rattle.pl_lists.specs.Lists.{front, back};
 ghost use Rattle.pl_points.specs.Points.{is_before, sum_below, first_from, leaving, merged};
 ghost use Rattle.pl_points.specs.Points.{RiseFrom, AreNear, IsNear, SmallFrom};
@@ -134,6 +134,20 @@ impl Block {
         }
     }
 
+    /// Whether its summary says that no sum along its points, which follow the sum `start`, is
+    /// outside.
+    pub(crate) fn is_calm(&self, start: i64, least: i64, most: i64) -> bool
+        requires { SmallFrom start self.now }
+        ensures { result ≡ true → is_some (leaving least most start self.now) ≡ false }
+    {
+        // There is at least one point.
+        let _ = self.points();
+        if start + self.least() < least || most < start + self.greatest() {
+            return false;
+        }
+        true
+    }
+
     /// Of its points from a place on, which follow the sum `before`, the first after which the sum
     /// is outside. `start` is the sum before all its points, from which its summary says whether
     /// any sum is outside: the points are read only then.
@@ -153,9 +167,8 @@ impl Block {
         ensures more { steps.old ≤ steps.new }
         ensures few { steps.new + place ≤ steps.old + length self.now }
     {
-        let points = self.points();
-        if start + self.least() < least || most < start + self.greatest() {
-            return leaving(&points[place..], before, least, most, steps);
+        if !self.is_calm(start, least, most) {
+            return leaving(&self.points()[place..], before, least, most, steps);
         }
         None
     }

@@ -1,6 +1,6 @@
-ghost use Rattle.std.specs.Prelude.{◌≡◌, ◌<◌, ◌≤◌, ◌+◌, ◌*◌, ◌/◌, ◌^◌, [], ◌∷◌, length, OnOk, OnErr};
-ghost use Rattle.pl_points.specs.Points.{leaving, RiseFrom, SmallFrom, AreSmall, ahead_of, put, IsNear};
-ghost use Rattle.pl_blocks.specs.Blocks.{together, blocks_from, AreSized};
+ghost use Rattle.std.specs.Prelude.{◌≡◌, ◌<◌, ◌≤◌, ◌+◌, ◌*◌, ◌/◌, ◌^◌, true, false, suc, is_some, [], ◌∷◌, length, take, slice_index_or, OnOk, OnErr};
+ghost use Rattle.pl_points.specs.Points.{leaving, RiseFrom, SmallFrom, AreSmall, ArePoints, ahead_of, put, IsNear};
+ghost use Rattle.pl_blocks.specs.Blocks.{together, blocks_from, change_of, AreSized};
 
 use crate::block::Block;
 use crate::finding::past_near;
@@ -76,6 +76,23 @@ fn leaving_blocks<L: Ledger>(
         sum += block.sum();
     }
     None
+}
+
+// Whether the block at the place is the last, and its summary says that no sum in it is outside. All
+// deltas of the row add up to `total`.
+fn ends_calm(blocks: &[Block], place: usize, total: i64, least: i64, most: i64) -> bool
+    requires there { place < length blocks.now }
+    requires points { ArePoints (together blocks.now) }
+    requires total { total ≡ change_of (together blocks.now) }
+    ensures last { result ≡ true → length blocks.now ≤ suc place }
+    ensures calm { result ≡ true → is_some (leaving least most (change_of (together (take place blocks.now))) (slice_index_or blocks.now place [])) ≡ false }
+{
+    if place + 1 < blocks.len() {
+        return false;
+    }
+    let block = &blocks[place];
+    let start = total - block.sum();
+    block.is_calm(start, least, most)
 }
 
 // The first point of the row.
@@ -162,6 +179,10 @@ impl Points for BlockPoints {
         steps.tick();
         let place = past_near(&self.blocks, from, steps);
         if place == self.blocks.len() {
+            return None;
+        }
+        if ends_calm(&self.blocks, place, self.total, least, most) {
+            steps.stand_at(place);
             return None;
         }
         let block = &self.blocks[place];
