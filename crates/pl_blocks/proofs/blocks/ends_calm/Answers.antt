@@ -1,4 +1,4 @@
-use Rattle.std.proofs.Common.{◌≡◌, ◌≤◌, ◌+◌, suc, arith, ap, sym, ◌∙◌, subst, [], length, take, get_or, ◌+ℤ◌}
+use Rattle.std.proofs.Common.{◌≡◌, ◌≤◌, suc, arith, ap, sym, ◌∙◌, subst, [], length, take, get_or}
 use Rattle.std.specs.Prelude.{is_some}
 use mir.Val.{to_z, of_z}
 use mir.Syntax.{w64}

@@ -5,7 +5,7 @@ use mir.Syntax.{w64}
 use Rattle.std.proofs.lemmas.Int.{to_z-of_z}
 use Rattle.std.proofs.lemmas.Bool.{or_from}
 use Rattle.pl_points.specs.Sums.{IsSmall}
-use Rattle.pl_points.specs.Points.{leaving, SmallFrom}
+use Rattle.pl_points.specs.Points.{SmallFrom}
 use Rattle.pl_points.proofs.Outside.{same_leaving}
 use Rattle.pl_blocks.specs.Blocks.{least_sum, greatest_sum}
 use Rattle.pl_blocks.proofs.Rows.{small_sum, small_head}
