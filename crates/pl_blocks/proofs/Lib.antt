@@ -2,3 +2,4 @@ pub mod Rows
 pub mod Summaries
 pub mod Mends
 pub mod Searches
+pub mod RowSums

@@ -12,7 +12,7 @@ use Rattle.pl_points.specs.Sums.{IsSmall}
 use Rattle.pl_points.specs.Points.{Point, sum_below, is_before, put, merged, RiseFrom, SmallFrom, AreNear, ArePoints}
 use Rattle.pl_points.proofs.Parting.{NonePass, IsParted, back_fails, drop_next}
 use Rattle.pl_points.proofs.PointLists.{small_along, rising_later, small_near, rising_drop}
-use Rattle.pl_points.proofs.Outside.{back_le, below_none, small_back}
+use Rattle.pl_points.proofs.Outside.{back_le, below_none}
 use Rattle.pl_points.proofs.Totals.{total-push}
 use mir.Val.{to_z, of_z, SFits}
 use mir.Syntax.{w64}
@@ -264,27 +264,6 @@ sized_drop zero bs sized = sized
 sized_drop (suc i) [] sized = tt
 sized_drop (suc i) (b ∷ bs) sized = sized_drop i bs sized.2
 
--- a block none of whose points lies after a moment has all blocks before it behind that moment
-pub blocks_passed : (c at i j : ℕ) (bs : List (List Point)) (b : List Point) → RiseFrom c (together bs) → AreSized bs → i < length bs → j ≡ i + 1 → b ≡ get_or bs i b → is_past (at + 1) b ≡ true → blocks_from bs at + j ≤ length bs + 1
-blocks_passed c at i j [] b rising sized lt next is past = absurd (omega (arith, lt))
-blocks_passed c at zero j (x ∷ bs) b rising sized lt next is past = omega (arith, next, back_le (is_past at) (x ∷ bs))
-blocks_passed c at (suc i) j (x ∷ bs) b rising sized lt next is past =
-    let h = rise_split c x (together bs) rising in
-    let le : h.0 ≤ at = first_le h.0 at i bs b h.1.1.1 sized.2 (omega (arith, lt)) is past in
-    let f : is_past at x ≡ true = past_more h.0 at x le h.1.1.0 in
-    rw f (omega (arith, next, blocks_passed h.0 at i (i + 1) bs b h.1.1.1 sized.2 (omega (arith, lt)) refl is past))
-  where
-    some_le : (d at : ℕ) (b : List Point) → RiseFrom d b → 0 < length b → is_past (at + 1) b ≡ true → d ≤ at
-    some_le d at [] rising some past = absurd (omega (arith, some))
-    some_le d at (p ∷ ps) rising some past = omega (arith, rising.0, ltb-true p.0 (at + 1) (and_first (is_before (at + 1) p) (is_past (at + 1) ps) past))
-
-    first_le : (d at i : ℕ) (bs : List (List Point)) (b : List Point) → RiseFrom d (together bs) → AreSized bs → i < length bs → b ≡ get_or bs i b → is_past (at + 1) b ≡ true → d ≤ at
-    first_le d at i [] b rising sized lt is past = absurd (omega (arith, lt))
-    first_le d at zero (y ∷ bs) b rising sized lt is past = some_le d at y (rise_front d y (together bs) rising) sized.0 (ap (is_past (at + 1)) (sym is) ∙ past)
-    first_le d at (suc i) (y ∷ bs) b rising sized lt is past =
-        let h = rise_split d y (together bs) rising in
-        omega (arith, h.1.0, first_le h.0 at i bs b h.1.1.1 sized.2 (omega (arith, lt)) is past)
-
 -- where the points before a moment end
 cut_front : (at : ℕ) (xs : List Point) → is_past at xs ≡ true → front (is_before at) xs ≡ xs
 cut_front at [] e = refl
@@ -357,7 +336,7 @@ pub parts_most : (bs : List (List Point)) → AreFull 33 bs → length bs ≤ 2 
 parts_most bs full = omega (arith, count_least 33 bs full)
 
 -- sums before a moment of points that do not all lie before it
-below_append : (at : ℕ) (xs ys : List Point) → sum_below (xs ++ ys) at ≡ sum_below xs at +ℤ sum_below ys at
+pub below_append : (at : ℕ) (xs ys : List Point) → sum_below (xs ++ ys) at ≡ sum_below xs at +ℤ sum_below ys at
 below_append at [] ys = omega (arith, ints)
 below_append at (x ∷ xs) ys = omega (arith, ints, below_append at xs ys)
 
@@ -367,9 +346,6 @@ below_here c at xs ys rising not =
     omega (arith, ints, below_append at xs ys, below_none h.0 at ys (not_past_le at h.0 xs h.1.1.0 not) h.1.1.1)
 
 -- sums so far are small
-pub small_below : (s : ℤ) (c at : ℕ) (ps : List Point) → RiseFrom c ps → SmallFrom s ps → IsSmall (s +ℤ sum_below ps at)
-small_below s c at ps rising small = small_head (s +ℤ sum_below ps at) (back (is_before at) ps) (small_back s c at ps rising small)
-
 pub small_sum : (s x : ℤ) → IsSmall s → IsSmall (s +ℤ x) → SFits w64 (s +ℤ to_z w64 (of_z w64 x)) × (to_z w64 (of_z w64 (s +ℤ to_z w64 (of_z w64 x))) ≡ s +ℤ x)
 small_sum s x one two =
     let fits : SFits w64 x = omega (arith, ints, one.0, one.1, two.0, two.1) in

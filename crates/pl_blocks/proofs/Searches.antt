@@ -1,5 +1,5 @@
 -- Where a search over blocks ends, and how many blocks it passes.
-use Rattle.std.proofs.Common.{◌≡◌, ℕ, zero, suc, ◌+◌, ◌-◌, ◌/◌, ◌^◌, ◌<◌, ◌≤◌, Bool, true, false, cond, eqb, leb, List, [], ◌∷◌, ◌++◌, length, get_or, take, drop, refl, ap, sym, ◌∙◌, subst, arith, ℤ, pos, ◌+ℤ◌, ◌-ℤ◌, min, Some, None, Option, Result, Ok, Err, OnOk, OnErr}
+use Rattle.std.proofs.Common.{◌≡◌, ℕ, zero, suc, ◌+◌, ◌-◌, ◌/◌, ◌^◌, ◌<◌, ◌≤◌, Bool, true, false, cond, eqb, leb, List, [], ◌∷◌, ◌++◌, length, get_or, take, drop, refl, ap, sym, ◌∙◌, subst, arith, ℤ, pos, ◌+ℤ◌, ◌-ℤ◌, min, Some, None, Option}
 use Rattle.std.specs.Prelude.{int_lt}
 use Rattle.std.specs.Int.{int_min, int_max}
 use mir.Val.{to_z, of_z, SFits}
@@ -71,6 +71,7 @@ pub record Sums (bs : List (List Point)) (place from : ℕ) (b : List Point) (so
   pub small : IsSmall so_far
   pub small_before : IsSmall (so_far +ℤ sum_below b from)
   pub small_behind : IsSmall (so_far +ℤ change_of b)
+  pub along : SmallFrom so_far b
   pub here : SmallFrom (so_far +ℤ sum_below b from) (back (is_before from) b)
   pub rest : SmallFrom (so_far +ℤ change_of b) (together (drop (suc place) bs))
   pub whole : back (is_before from) (together bs) ≡ back (is_before from) b ++ together (drop (suc place) bs)
@@ -106,6 +107,7 @@ sums_at bs place from b are before rest lt is =
       small = small_head (change_of us) (b ++ ws) two;
       small_before = small_head (change_of us +ℤ sum_below b from) (back (is_before from) b) below;
       small_behind = small_head (change_of us +ℤ change_of b) ws three.1;
+      along = three.0;
       here = below;
       rest = three.1;
       whole = back_there from place bs b before rest lt is;
@@ -114,23 +116,25 @@ sums_at bs place from b are before rest lt is =
     }
 
 -- what is left of a sum without what was skipped, and with the block's
-pub exchanged : (B K S so_far sum : ℤ) → B ≡ so_far +ℤ K → S ≡ sum → IsSmall so_far → IsSmall (so_far +ℤ K) → IsSmall (so_far +ℤ sum)
-    → SFits w64 (to_z w64 (of_z w64 B) -ℤ to_z w64 (of_z w64 K))
-    × (SFits w64 (to_z w64 (of_z w64 (to_z w64 (of_z w64 B) -ℤ to_z w64 (of_z w64 K))) +ℤ to_z w64 (of_z w64 S))
-    × (to_z w64 (of_z w64 (to_z w64 (of_z w64 (to_z w64 (of_z w64 B) -ℤ to_z w64 (of_z w64 K))) +ℤ to_z w64 (of_z w64 S))) ≡ so_far +ℤ sum))
-exchanged B K S so_far sum b s one two three =
+pub started : (B K so_far : ℤ) → B ≡ so_far +ℤ K → IsSmall so_far → IsSmall (so_far +ℤ K)
+    → SFits w64 (to_z w64 (of_z w64 B) -ℤ to_z w64 (of_z w64 K)) × (to_z w64 (of_z w64 (to_z w64 (of_z w64 B) -ℤ to_z w64 (of_z w64 K))) ≡ so_far)
+started B K so_far b one two =
     let fb : SFits w64 B = omega (arith, ints, b, two.0, two.1) in
     let fk : SFits w64 K = omega (arith, ints, one.0, one.1, two.0, two.1) in
-    let fs : SFits w64 S = omega (arith, ints, s, one.0, one.1, three.0, three.1) in
     let eb : to_z w64 (of_z w64 B) ≡ B = to_z-of_z w64 B fb in
     let ek : to_z w64 (of_z w64 K) ≡ K = to_z-of_z w64 K fk in
-    let es : to_z w64 (of_z w64 S) ≡ S = to_z-of_z w64 S fs in
     let less : to_z w64 (of_z w64 B) -ℤ to_z w64 (of_z w64 K) ≡ so_far = omega (arith, ints, b, eb, ek) in
     let fits : SFits w64 so_far = omega (arith, ints, one.0, one.1) in
-    let now : to_z w64 (of_z w64 (to_z w64 (of_z w64 B) -ℤ to_z w64 (of_z w64 K))) ≡ so_far = ap (λ z. to_z w64 (of_z w64 z)) less ∙ to_z-of_z w64 so_far fits in
-    let more : to_z w64 (of_z w64 (to_z w64 (of_z w64 B) -ℤ to_z w64 (of_z w64 K))) +ℤ to_z w64 (of_z w64 S) ≡ so_far +ℤ sum = omega (arith, ints, now, es, s) in
-    let whole : SFits w64 (so_far +ℤ sum) = omega (arith, ints, three.0, three.1) in
-    (subst (λ z. SFits w64 z) (sym less) fits, (subst (λ z. SFits w64 z) (sym more) whole, ap (λ z. to_z w64 (of_z w64 z)) more ∙ to_z-of_z w64 (so_far +ℤ sum) whole))
+    (subst (λ z. SFits w64 z) (sym less) fits, ap (λ z. to_z w64 (of_z w64 z)) less ∙ to_z-of_z w64 so_far fits)
+
+pub ended : (T S so_far sum : ℤ) → T ≡ so_far → S ≡ sum → IsSmall so_far → IsSmall (so_far +ℤ sum)
+    → SFits w64 (T +ℤ to_z w64 (of_z w64 S)) × (to_z w64 (of_z w64 (T +ℤ to_z w64 (of_z w64 S))) ≡ so_far +ℤ sum)
+ended T S so_far sum t s one two =
+    let fs : SFits w64 S = omega (arith, ints, s, one.0, one.1, two.0, two.1) in
+    let es : to_z w64 (of_z w64 S) ≡ S = to_z-of_z w64 S fs in
+    let more : T +ℤ to_z w64 (of_z w64 S) ≡ so_far +ℤ sum = omega (arith, ints, t, es, s) in
+    let whole : SFits w64 (so_far +ℤ sum) = omega (arith, ints, two.0, two.1) in
+    (subst (λ z. SFits w64 z) (sym more) whole, ap (λ z. to_z w64 (of_z w64 z)) more ∙ to_z-of_z w64 (so_far +ℤ sum) whole)
 
 -- an answer has no more ahead than any later moment has
 pub leaving_within : (f : ℕ → ℕ) (n c : ℕ) (least most s : ℤ) (ps : List Point) → RiseFrom c ps → ((t : ℕ) → c ≤ t → f t ≤ n) → ahead_of f (leaving least most s ps) ≤ n
@@ -216,7 +220,7 @@ mended_at bs place at d b new fit is some few later earlier split =
         omega (arith, later (omega arith), ap (λ j. length (get_or bs j [])) one, last_taken 33 (suc i) i bs [] (omega (arith, lt)) refl)
 
 -- the place for a delta
-pub fits_there : (bs : List (List Point)) (k place at : ℕ) (d : ℤ) (b ps : List Point) → AreBlocks bs → AreSmall (merged at d (together bs)) → k ≤ length bs → take k bs ≡ front (is_past at) bs → drop k bs ≡ back (is_past at) bs
+pub fits_there : {all : ℤ} (bs : List (List Point)) (k place at : ℕ) (d : ℤ) (b ps : List Point) → AreBlocks bs all → AreSmall (merged at d (together bs)) → k ≤ length bs → take k bs ≡ front (is_past at) bs → drop k bs ≡ back (is_past at) bs
     → place ≡ min k (length bs - 1) → 0 < length bs → b ≡ get_or bs place b → ps ≡ merged at d b → Fit bs place ps × (merged at d (together bs) ≡ with_points bs place ps)
 fits_there bs k place at d b ps are small le before rest chosen some is merged_is =
     let lt : place < length bs = omega (arith, chosen, some) in
@@ -245,24 +249,25 @@ fits_there bs k place at d b ps are small le before rest chosen some is merged_i
         merged_there at place d bs b (ap (λ n. take n bs) same ∙ before) (ap (λ n. drop n bs) same ∙ rest) (omega (arith, same, leb-false (length bs) k e)) is
 
 -- the same of the block that stands there
-pub fits_at : (bs : List (List Point)) (k place at : ℕ) (d e : ℤ) → AreBlocks bs → AreSmall (merged at d (together bs)) → k ≤ length bs → take k bs ≡ front (is_past at) bs → drop k bs ≡ back (is_past at) bs
+pub fits_at : {all : ℤ} (bs : List (List Point)) (k place at : ℕ) (d e : ℤ) → AreBlocks bs all → AreSmall (merged at d (together bs)) → k ≤ length bs → take k bs ≡ front (is_past at) bs → drop k bs ≡ back (is_past at) bs
     → place ≡ min k (length bs - 1) → 0 < length bs → e ≡ d → Fit bs place (merged at e (get_or bs place [])) × (merged at d (together bs) ≡ with_points bs place (merged at e (get_or bs place [])))
 fits_at bs k place at d e are small le before rest chosen some same =
     let b : List Point = get_or bs place [] in
     fits_there bs k place at d b (merged at e b) are small le before rest chosen some (get_or_default bs place [] b (omega (arith, chosen, some))) (ap (λ z. merged at z b) same)
 
-pub mended_blocks : (bs new : List (List Point)) (place : ℕ) (ps : List Point) → ArePoints (with_points bs place ps) → length bs + 1 < 2 ^ 26 → IsMended bs place ps new → AreBlocks new
-mended_blocks bs new place ps are few m = record { sized = m.sized; full = m.full; points = subst ArePoints (sym m.whole) are; few = omega (arith, m.more, few) }
+pub mended_blocks : (bs new : List (List Point)) (sum : ℤ) (place : ℕ) (ps : List Point) → ArePoints (with_points bs place ps) → length bs + 1 < 2 ^ 26 → IsMended bs place ps new → sum ≡ change_of (with_points bs place ps) → AreBlocks new sum
+mended_blocks bs new sum place ps are few m is = record { sized = m.sized; full = m.full; points = subst ArePoints (sym m.whole) are; few = omega (arith, m.more, few); adds_up = is ∙ ap change_of (sym m.whole) }
 
-pub none_blocks : AreBlocks []
-none_blocks = record { sized = tt; full = tt; points = record { rising = tt; small = λ t. (omega (arith, ints), omega (arith, ints)) }; few = omega arith }
+pub none_blocks : AreBlocks [] (pos 0)
+none_blocks = record { sized = tt; full = tt; points = record { rising = tt; small = λ t. (omega (arith, ints), omega (arith, ints)) }; few = omega arith; adds_up = refl }
 
-pub begun_blocks : (new : List (List Point)) (at : ℕ) (d : ℤ) → together new ≡ put at d [] → AreSized new → length new ≤ 1 → AreSmall (merged at d []) → AreBlocks new
-begun_blocks new at d is sized few small = record {
+pub begun_blocks : (new : List (List Point)) (sum : ℤ) (at : ℕ) (d : ℤ) → together new ≡ put at d [] → AreSized new → length new ≤ 1 → AreSmall (merged at d []) → sum ≡ change_of (put at d []) → AreBlocks new sum
+begun_blocks new sum at d whole sized few small is = record {
   sized = sized;
   full = full_one new few;
-  points = subst ArePoints (sym is) (points-merged at d [] none_blocks.points small);
+  points = subst ArePoints (sym whole) (points-merged at d [] none_blocks.points small);
   few = omega (arith, few);
+  adds_up = is ∙ ap change_of (sym whole);
 }
   where
     full_one : (new : List (List Point)) → length new ≤ 1 → AreFull 33 new
@@ -272,8 +277,3 @@ begun_blocks new at d is sized few small = record {
 
 pub from_next : (i : ℕ) (bs : List (List Point)) → drop (i + 1) bs ≡ drop (suc i) bs
 from_next i bs = let same : i + 1 ≡ suc i = omega arith in ap (λ n. drop n bs) same
-
--- what holds in either case
-pub three : {T E : Type 0} {A B C D F : Type 0} (r : Result T E) → OnOk r A → OnOk r B → OnOk r C → OnErr r D → (A → B → C → F) → (D → F) → F
-three (Ok x) a b c d f g = f a b c
-three (Err e) a b c d f g = g d

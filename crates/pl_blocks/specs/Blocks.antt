@@ -69,9 +69,10 @@ abbrev pub AreFull : ℕ → List (List Point) → Type 0
 AreFull before [] = Unit {0}
 AreFull before (b ∷ bs) = (32 < before + length b) × AreFull (length b) bs
 
--- the first block has no neighbour before it, so any number of points
-pub record AreBlocks (bs : List (List Point)) : Type 0 where
+-- a row of blocks and what all deltas add up to; the first block has no neighbour before it, so any number of points
+pub record AreBlocks (bs : List (List Point)) (sum : ℤ) : Type 0 where
   pub sized : AreSized bs
   pub full : AreFull 33 bs
   pub points : ArePoints (together bs)
   pub few : length bs < 2 ^ 26
+  pub adds_up : sum ≡ change_of (together bs)

@@ -1,4 +1,4 @@
-ghost use Rattle.std.specs.Prelude.{◌≡◌, ◌<◌, ◌≤◌, ◌+◌, ◌-◌, pos, length, get_or, take, drop, OnOk, OnErr, IfOk};
+ghost use Rattle.std.specs.Prelude.{◌≡◌, ◌<◌, ◌≤◌, ◌+◌, ◌-◌, pos, ◌+ℤ◌, true, false, is_some, length, get_or, take, drop, OnOk, OnErr, IfOk};
 ghost use Rattle.pl_lists.specs.Lists.{front, back};
 ghost use Rattle.pl_points.specs.Points.{is_before, sum_below, first_from, leaving, merged};
 ghost use Rattle.pl_points.specs.Points.{RiseFrom, AreNear, IsNear, SmallFrom};
@@ -114,6 +114,65 @@ impl Block {
         u64::from(self.summary.last) < at
     }
 
+    /// How many of its points lie before the moment, and what they add up to: from the end that is
+    /// nearer.
+    pub(crate) fn passed<L: Ledger>(&self, at: u64, steps: &mut Steps<L>) -> (usize, i64)
+        ensures bound { result.0 ≤ length self.now }
+        ensures before { take result.0 self.now ≡ front (is_before at) self.now }
+        ensures rest { drop result.0 self.now ≡ back (is_before at) self.now }
+        ensures sum { result.1 ≡ sum_below self.now at }
+        ensures more { steps.old ≤ steps.new }
+        ensures few { steps.new ≤ steps.old + length self.now }
+        ensures cost { steps.new ≤ steps.old + result.0 + 1 }
+    {
+        let points = self.points();
+        let middle = points.len() / 2;
+        if u64::from(points[middle].0) < at {
+            passed_behind(points, middle, self.sum(), at, steps)
+        } else {
+            passed(points, at, steps)
+        }
+    }
+
+    /// Whether its summary says that no sum along its points, which follow the sum `start`, is
+    /// outside.
+    pub(crate) fn is_calm(&self, start: i64, least: i64, most: i64) -> bool
+        requires { SmallFrom start self.now }
+        ensures { result ≡ true → is_some (leaving least most start self.now) ≡ false }
+    {
+        // There is at least one point.
+        let _ = self.points();
+        if start + self.least() < least || most < start + self.greatest() {
+            return false;
+        }
+        true
+    }
+
+    /// Of its points from a place on, which follow the sum `before`, the first after which the sum
+    /// is outside. `start` is the sum before all its points, from which its summary says whether
+    /// any sum is outside: the points are read only then.
+    pub(crate) fn leaving_from<L: Ledger>(
+        &self,
+        place: usize,
+        start: i64,
+        before: i64,
+        least: i64,
+        most: i64,
+        steps: &mut Steps<L>,
+    ) -> Option<(u32, i64)>
+        requires bound { place ≤ length self.now }
+        requires before { before ≡ start +ℤ change_of (take place self.now) }
+        requires small { SmallFrom start self.now }
+        ensures first { result ≡ leaving least most before (drop place self.now) }
+        ensures more { steps.old ≤ steps.new }
+        ensures few { steps.new + place ≤ steps.old + length self.now }
+    {
+        if !self.is_calm(start, least, most) {
+            return leaving(&self.points()[place..], before, least, most, steps);
+        }
+        None
+    }
+
     /// The points with the delta merged in.
     pub(crate) fn merged(
         &self,
@@ -162,12 +221,8 @@ impl Copied for Block {
     }
 }
 
-/// How many of the points lie before the moment, and what they add up to.
-pub(crate) fn passed<L: Ledger>(
-    points: &[(u32, i64)],
-    at: u64,
-    steps: &mut Steps<L>,
-) -> (usize, i64)
+// How many of the points lie before the moment, and what they add up to.
+fn passed<L: Ledger>(points: &[(u32, i64)], at: u64, steps: &mut Steps<L>) -> (usize, i64)
     requires rising { RiseFrom 0 points.now }
     requires near { AreNear (pos 0) points.now }
     ensures bound { result.0 ≤ length points.now }
@@ -187,4 +242,37 @@ pub(crate) fn passed<L: Ledger>(
         sum += point.1;
     }
     (points.len(), sum)
+}
+
+// The same of points that add up to `total`, from the last back to one behind the middle.
+fn passed_behind<L: Ledger>(
+    points: &[(u32, i64)],
+    middle: usize,
+    total: i64,
+    at: u64,
+    steps: &mut Steps<L>,
+) -> (usize, i64)
+    requires there { middle < length points.now }
+    requires half { length points.now ≤ middle + middle + 1 }
+    requires passes { (get_or points.now middle (0, pos 0)).0 < at }
+    requires rising { RiseFrom 0 points.now }
+    requires near { AreNear (pos 0) points.now }
+    requires total { total ≡ change_of points.now }
+    ensures bound { result.0 ≤ length points.now }
+    ensures before { take result.0 points.now ≡ front (is_before at) points.now }
+    ensures rest { drop result.0 points.now ≡ back (is_before at) points.now }
+    ensures sum { result.1 ≡ sum_below points.now at }
+    ensures more { steps.old ≤ steps.new }
+    ensures few { steps.new ≤ steps.old + length points.now }
+    ensures cost { steps.new ≤ steps.old + result.0 + 1 }
+{
+    let mut count = points.len();
+    let mut sum = total;
+    steps.tick();
+    'behind: while u64::from(points[count - 1].0) >= at {
+        steps.tick();
+        sum -= points[count - 1].1;
+        count -= 1;
+    }
+    (count, sum)
 }

@@ -1,10 +1,11 @@
-ghost use Rattle.std.specs.Prelude.{◌≡◌, ◌<◌, ◌≤◌, ◌+◌, ◌*◌, ◌/◌, ◌^◌, [], ◌∷◌, length, OnOk, OnErr};
-ghost use Rattle.pl_points.specs.Points.{leaving, RiseFrom, SmallFrom, AreSmall, ahead_of, put, IsNear};
-ghost use Rattle.pl_blocks.specs.Blocks.{together, blocks_from, AreSized};
+ghost use Rattle.std.specs.Prelude.{◌≡◌, ◌<◌, ◌≤◌, ◌+◌, ◌*◌, ◌/◌, ◌^◌, true, false, suc, is_some, [], ◌∷◌, length, take, slice_index_or, OnOk, OnErr};
+ghost use Rattle.pl_points.specs.Points.{leaving, RiseFrom, SmallFrom, AreSmall, ArePoints, ahead_of, put, IsNear};
+ghost use Rattle.pl_blocks.specs.Blocks.{together, blocks_from, change_of, AreSized};
 
-use crate::block::{Block, passed};
+use crate::block::Block;
 use crate::finding::past_near;
 use crate::mending::merge_at;
+use crate::summing::sum_before;
 use pl_lists::Copied;
 use pl_points::{Ledger, Points, Steps, leaving, place_of};
 use std::alloc::{AllocError, Global};
@@ -19,6 +20,8 @@ const MOST_BLOCKS: usize = 0x0400_0000;
 pub struct BlockPoints {
     alloc: Global,
     blocks: Vec<Block>,
+    // What all deltas add up to.
+    total: i64,
 }
 
 impl Model for BlockPoints {
@@ -29,7 +32,7 @@ impl Model for BlockPoints {
 
     ghost view = { λ p. p.blocks.items };
 
-    ghost invariant = { λ p. AreBlocks p.blocks.items };
+    ghost invariant = { λ p. AreBlocks p.blocks.items p.total };
 }
 
 impl BlockPoints {
@@ -40,6 +43,7 @@ impl BlockPoints {
         BlockPoints {
             alloc,
             blocks: Vec::new(alloc),
+            total: 0,
         }
     }
 }
@@ -72,6 +76,23 @@ fn leaving_blocks<L: Ledger>(
         sum += block.sum();
     }
     None
+}
+
+// Whether the block at the place is the last, and its summary says that no sum in it is outside. All
+// deltas of the row add up to `total`.
+fn ends_calm(blocks: &[Block], place: usize, total: i64, least: i64, most: i64) -> bool
+    requires there { place < length blocks.now }
+    requires points { ArePoints (together blocks.now) }
+    requires total { total ≡ change_of (together blocks.now) }
+    ensures last { result ≡ true → length blocks.now ≤ suc place }
+    ensures calm { result ≡ true → is_some (leaving least most (change_of (together (take place blocks.now))) (slice_index_or blocks.now place [])) ≡ false }
+{
+    if place + 1 < blocks.len() {
+        return false;
+    }
+    let block = &blocks[place];
+    let start = total - block.sum();
+    block.is_calm(start, least, most)
 }
 
 // The first point of the row.
@@ -125,10 +146,14 @@ impl Points for BlockPoints {
             return Err(AllocError);
         }
         if count == 0 {
-            return begin(self.alloc, &mut self.blocks, at, delta, steps);
+            begin(self.alloc, &mut self.blocks, at, delta, steps)?;
+            self.total = delta;
+            return Ok(());
         }
         let place = past_near(&self.blocks, at, steps).min(count - 1);
-        merge_at(self.alloc, &mut self.blocks, place, at, delta, steps)
+        merge_at(self.alloc, &mut self.blocks, place, at, delta, steps)?;
+        self.total += delta;
+        Ok(())
     }
 
     fn first_from<L: Ledger>(&self, at: u32, steps: &mut Steps<L>) -> Option<(u32, i64)> {
@@ -156,30 +181,31 @@ impl Points for BlockPoints {
         if place == self.blocks.len() {
             return None;
         }
+        if ends_calm(&self.blocks, place, self.total, least, most) {
+            steps.stand_at(place);
+            return None;
+        }
         let block = &self.blocks[place];
-        let points = block.points();
-        let (count, skipped) = passed(points, u64::from(from), steps);
-        let found = leaving(&points[count..], before, least, most, steps);
+        let (count, skipped) = block.passed(u64::from(from), steps);
+        let start = before - skipped;
+        let found = block.leaving_from(count, start, before, least, most, steps);
         steps.stand_at(place);
         if found.is_some() {
             return found;
         }
-        let sum = before - skipped + block.sum();
+        let sum = start + block.sum();
         leaving_blocks(&self.blocks[place + 1..], sum, least, most, steps)
     }
 
     fn sum_to<L: Ledger>(&self, at: u32, steps: &mut Steps<L>) -> i64 {
         steps.tick();
-        let end = u64::from(at) + 1;
-        let mut sum: i64 = 0;
-        for block in &self.blocks {
-            steps.tick();
-            if !block.is_past(end) {
-                return sum + passed(block.points(), end, steps).1;
-            }
-            sum += block.sum();
+        let place = past_near(&self.blocks, at, steps);
+        steps.stand_at(place);
+        let before = sum_before(&self.blocks, place, self.total, steps);
+        if place == self.blocks.len() {
+            return before;
         }
-        sum
+        before + self.blocks[place].passed(u64::from(at) + 1, steps).1
     }
 
     fn len(&self) -> u32 {
@@ -197,6 +223,10 @@ impl Copied for BlockPoints {
         for block in &self.blocks {
             blocks.push(block.copy(alloc)?)?;
         }
-        Ok(BlockPoints { alloc, blocks })
+        Ok(BlockPoints {
+            alloc,
+            blocks,
+            total: self.total,
+        })
     }
 }

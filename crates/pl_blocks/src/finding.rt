@@ -52,8 +52,8 @@ fn is_last_past(blocks: &[Block], place: usize, at: u32) -> bool
     !blocks[place + 1].is_past(moment)
 }
 
-/// How many blocks lie whole before the moment, found at once where the walk stands in the block
-/// behind them or in the last of them.
+/// How many blocks lie whole before the moment, found at once where they are all or all but the last,
+/// and where the walk stands in the block behind them or in the last of them.
 pub(crate) fn past_near<L: Ledger>(blocks: &[Block], at: u32, steps: &mut Steps<L>) -> usize
     requires few { length blocks.now < 2 ^ 26 }
     requires sized { AreSized blocks.now }
@@ -64,6 +64,16 @@ pub(crate) fn past_near<L: Ledger>(blocks: &[Block], at: u32, steps: &mut Steps<
     ensures more { steps.old ≤ steps.new }
     ensures cost { steps.new ≤ steps.old + 26 }
 {
+    let last = blocks.len().wrapping_sub(1);
+    let next_to_last = last.wrapping_sub(1);
+    if is_last_past(blocks, next_to_last, at) {
+        steps.tick();
+        return next_to_last + 1;
+    }
+    if is_last_past(blocks, last, at) {
+        steps.tick();
+        return last + 1;
+    }
     let near = steps.near();
     let earlier = near.wrapping_sub(1);
     if is_last_past(blocks, earlier, at) {

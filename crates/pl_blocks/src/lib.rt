@@ -7,6 +7,7 @@ mod finding;
 mod laws;
 mod mending;
 mod sharing;
+mod summing;
 
 pub use blocks::BlockPoints;
 pub use laws::laws_of_steps;

@@ -18,6 +18,7 @@ abbrev pub is_moved : Placed → Placed → Option ℕ → Bool
 is_moved parent child None = false
 is_moved parent child (Some slot) = fills parent.id slot child
 
+-- the moved child is at one of its ends
 abbrev pub speaks_of : Placed → Placed → Order → Bool
 speaks_of parent child order = is_moved parent child order.first || is_moved parent child order.second
 
@@ -30,22 +31,23 @@ moment_with items parent child (Some slot) point = if fills parent.id slot child
 abbrev pub is_missed : List Placed → Placed → Placed → Order → Bool
 is_missed items parent child order = are_misplaced order.low order.high (moment_with items parent child order.first order.first_end) (moment_with items parent child order.second order.second_end)
 
+-- the moved child is at one of its ends, and it is not met
 abbrev pub is_unmet_with : List Placed → Placed → Placed → Order → Bool
 is_unmet_with items parent child order = speaks_of parent child order && is_missed items parent child order
 
 -- ---- how many there are
 
--- of the orders of this parent
+-- so many of the orders of this parent, if it is live
 abbrev pub unmet_under : PlanState → Placed → Option Placed → ℕ
 unmet_under s child None = 0
 unmet_under s child (Some parent) = length (filter (is_unmet_with (placed_in s) parent child) (orders_of s.model parent))
 
--- of those of the parent in whose slot the child is
+-- so many of the orders of the parent in whose slot the child is, if it is in one
 abbrev pub unmet_above : PlanState → Placed → Option (ℕ × ℕ) → ℕ
 unmet_above s child None = 0
 unmet_above s child (Some place) = unmet_under s child (option_map (placed_of s) (found s place.0))
 
--- of those of the parent of an activity that is moved alone, if there is one, once it starts then
+-- the same of an activity that is moved alone, once it starts then; none if no activity is given
 abbrev pub unmet_then : PlanState → ℕ → Option Placed → ℕ
 unmet_then s start None = 0
 unmet_then s start (Some p) = unmet_above s (placed_at start p) p.parent

@@ -68,7 +68,8 @@ is_left_if gone kinds parent (Some k) = is_left gone kinds parent k
 abbrev pub is_untouched : PlanState → List ℕ → List ℕ → Option ℕ → Conflict → Bool
 is_untouched s gone kinds parent q = is_left_if gone kinds parent (listed s q)
 
--- how many of those that stand are left where these activities go, and some of these kinds are placed, the uppermost with this parent
+-- how many of those that stand are left by a move that takes out these activities and places some of these kinds, where the uppermost has
+-- this parent
 abbrev pub count_of_untouched : PlanState → List ℕ → List ℕ → Option ℕ → ℕ
 count_of_untouched s gone kinds parent = length (filter (is_untouched s gone kinds parent) (conflicts_of s))
 

@@ -72,7 +72,7 @@ struct Walk {
     last: Option<i64>,
 }
 
-// The tally with a look between the last one and a moment, where it may be past its limit.
+// The tally with one more look between the last one and this moment, if the timeline may be past its limit there.
 fn looked_between(
     board: &Board,
     walk: Walk,
@@ -198,7 +198,8 @@ fn times_by(board: &Board, ahead: Tally, outside: &Outside, change: &Change<'_>)
     }
 }
 
-// Whether a timeline is not past its limit now, and nothing of these parts seems to bring it past.
+// Whether a timeline is taken to be nowhere past its limit: a level has no looks, or the timeline is not past its limit now and nothing of
+// these parts concerns it.
 fn is_out_of_reach(outside: &Outside, parts: &[Part]) -> bool {
     outside.is_clear() || outside.times == 0 && !bears_on(parts, outside.line)
 }

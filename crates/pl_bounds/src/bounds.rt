@@ -28,7 +28,7 @@ use std::alloc::{AllocError, Global};
 // With more conflicts than this for each move none of them is looked at.
 const CONFLICTS_A_MOVE: usize = 64;
 
-// How often timelines are past limits then, as far as it is known what the move asks for.
+// How often at least timelines are past their limits after the move. 0 if it is not known what the move asks for.
 fn past_by(board: &Board, outsides: &[Outside], run: &Run, mv: &RepairMove) -> u32
     requires unspoiled { board.now.spoiled ≡ false }
     requires next { board.now.state.next_id ≤ 3999999000 }
@@ -47,7 +47,7 @@ fn past_by(board: &Board, outsides: &[Outside], run: &Run, mv: &RepairMove) -> u
     }
 }
 
-// Beside the conflicts of goals, of activities and of links that the move leaves, so many at least.
+// How many conflicts the move leaves at least beside those of goals, of activities and of links.
 fn others_by(board: &Board, outsides: &[Outside], run: &Run, mv: &RepairMove) -> u32
     requires unspoiled { board.now.spoiled ≡ false }
     requires next { board.now.state.next_id ≤ 3999999000 }
@@ -106,7 +106,8 @@ fn least_alone(alloc: Global, board: &Board, moves: &[RepairMove]) -> Result<Vec
     Ok(bounds)
 }
 
-// A number of conflicts that a move leaves at least. A run that it begins is put behind the others.
+// A number of conflicts that a move leaves at least. If no move before it places the same activities, what is known of it is put behind the
+// others.
 fn bound_of(
     alloc: Global,
     board: &Board,
@@ -157,9 +158,9 @@ fn bounds_of_each(
     Ok(bounds)
 }
 
-/// For each of these moves a number of conflicts that it leaves at least, known without making it. How near they come no clause
-/// says: none at all would be right too, and slower to choose by. Where there are few moves beside the conflicts, none of these is
-/// looked at. An error is want of memory.
+/// For each of these moves a number of conflicts that it leaves at least, known without making it. No clause says how near these come: 0
+/// for each would be right too, and slower to choose by. If the conflicts are very many for so few moves, none of them is looked at. An
+/// error is want of memory.
 pub fn least_of_each(
     alloc: Global,
     board: &Board,

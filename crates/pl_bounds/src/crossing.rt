@@ -1,5 +1,5 @@
-//! The moments at which a level comes past a bar, and at which it comes back. A bar stands for a limit that is nearer or further by
-//! what a move adds to the level.
+//! The moments at which a level comes past a bar, and at which it comes back. A bar is a limit less the amount that a move adds to the
+//! level: with this amount added the level is past its limit where it is past the bar now.
 ghost use Rattle.std.specs.Prelude.{◌≡◌, ◌≤◌, false, pos, ◌+ℤ◌, ◌-ℤ◌};
 ghost use Rattle.pl_points.specs.Sums.{IsSmall};
 ghost use Rattle.pl_bounds.specs.Looks.{IsLimited};
@@ -7,10 +7,10 @@ ghost use Rattle.pl_bounds.specs.Looks.{IsLimited};
 use crate::outside::Side;
 use pl_board::Board;
 
-// So far from 0 no level comes.
+// No level comes this far from 0.
 const FAR: i64 = 1000000000000000;
 
-// The bar, or the nearest one that may be asked for.
+// The bar, or the nearest number for which `level_until` may be asked.
 fn within_reach(bar: i64) -> i64
     ensures small { IsSmall result }
     ensures less { IsSmall (result -ℤ pos 1) }
@@ -19,7 +19,7 @@ fn within_reach(bar: i64) -> i64
     bar.max(1 - FAR).min(FAR - 1)
 }
 
-/// The first moment from one on and before an end at which a level is past a bar, or the end. Of a capacity none is told.
+/// The first moment from `from` on and before `end` at which a level is past a bar, or else `end`. For a capacity it is always `end`.
 pub(crate) fn first_past(board: &Board, side: Side, line: u32, bar: i64, from: u32, end: u32) -> u32
     requires unspoiled { board.now.spoiled ≡ false }
     requires limited { IsLimited board.now.state side line }
@@ -37,7 +37,7 @@ pub(crate) fn first_past(board: &Board, side: Side, line: u32, bar: i64, from: u
     }
 }
 
-/// The first moment from one on and before an end at which a level is not past a bar, or the end. Of a capacity none is told.
+/// The first moment from `from` on and before `end` at which a level is not past a bar, or else `end`. For a capacity it is always `end`.
 pub(crate) fn first_back(board: &Board, side: Side, line: u32, bar: i64, from: u32, end: u32) -> u32
     requires unspoiled { board.now.spoiled ≡ false }
     requires limited { IsLimited board.now.state side line }

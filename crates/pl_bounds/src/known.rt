@@ -21,9 +21,9 @@ use pl_plan::RepairMove;
 use pl_semantics::PlanState;
 use std::alloc::{AllocError, Global};
 
-/// Of a move, and of those that go on with it: how many conflicts of goals and activities each leaves at least, and one more where it
-/// starts outside a window; how many conflicts of links each leaves as they stand; the activity that it moves alone or adds; and what
-/// it asks for.
+/// What is known of a move, and of each that places the same activities at another start: how many conflicts of goals and activities it
+/// leaves at least, not counting one more if it starts outside the window; how many of the conflicts of links that stand it does not
+/// touch; the activity that it moves alone, or adds; and what it asks for.
 #[derive(Drop)]
 pub(crate) struct Known {
     pub(crate) first: RepairMove,

@@ -6,7 +6,8 @@ use pl_board::Board;
 use pl_conflict::{Code, Conflict};
 use std::alloc::{AllocError, Global};
 
-/// A conflict of links: the activity that it tells of, and the kind that the temporal link seeks. An order of slots seeks none.
+/// A conflict of a temporal link or of an order: the activity that it tells of, and the kind of which the link seeks an activity. An order
+/// of slots seeks none.
 #[derive(Clone, Copy)]
 pub(crate) struct LinkConflict {
     pub(crate) subject: u32,
@@ -55,7 +56,7 @@ fn add(board: &Board, conflict: &Conflict, all: &mut Vec<LinkConflict>) -> Resul
     }
 }
 
-/// Those that stand.
+/// The conflicts of links that stand, in their order.
 pub(crate) fn listed_links(alloc: Global, board: &Board) -> Result<Vec<LinkConflict>, AllocError>
     requires { board.now.spoiled ≡ false }
     ensures { IfOk result (λ all. all.items ≡ listed_links board.now.state) }

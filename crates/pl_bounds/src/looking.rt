@@ -10,7 +10,7 @@ use pl_board::Board;
 use pl_conflict::{Code, Conflict};
 use std::alloc::{AllocError, Global};
 
-// Of one bar at most so many crossings are looked at.
+// How often at most a level is followed past one bar and back.
 const CROSSINGS: u32 = 8;
 
 /// Looks by rising moments, and the first moment after them.
@@ -47,7 +47,7 @@ impl Looking {
         Ok(())
     }
 
-    /// With a look of before, if it is behind those that are there.
+    /// Appends a look that was made before, if it is later than those that are there.
     pub(crate) fn keep(
         &mut self,
         board: &Board,
@@ -66,7 +66,7 @@ impl Looking {
         Ok(())
     }
 
-    // Looks where a level comes past a bar, and where it comes back.
+    // Looks where a level comes past a bar (see `crossing.rt`), and where it comes back.
     fn look_at_crossings(
         &mut self,
         board: &Board,
@@ -114,7 +114,7 @@ impl Looking {
     }
 }
 
-/// What a timeline comes to round its spans that are past the limit.
+/// Looks at a timeline around the spans in which it is past its limit.
 pub(crate) fn looks_at(
     alloc: Global,
     board: &Board,
@@ -138,7 +138,7 @@ pub(crate) fn looks_at(
     Ok(looking.looks)
 }
 
-/// What a level comes to where it comes past a bar, and where it comes back.
+/// Looks at a level where it comes past a bar, and where it comes back.
 pub(crate) fn looks_across(
     alloc: Global,
     board: &Board,

@@ -1,4 +1,4 @@
-//! Two lists of looks at one timeline as one.
+//! Merges two lists of looks at one timeline.
 ghost use Rattle.std.specs.Prelude.{◌≡◌, ◌<◌, ◌⊎◌, true, false, IfOk, length};
 ghost use Rattle.pl_bounds.specs.Looks.{AreLooksAt};
 ghost use Rattle.pl_bounds.specs.Sides.{AreRight};

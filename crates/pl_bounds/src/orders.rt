@@ -171,7 +171,8 @@ fn unmet_at(board: &Board, own: &Placed, start: u32) -> u32
     }
 }
 
-/// How many orders of the parent of an activity that is moved alone, if there is one, are not met where it starts then.
+/// Of the orders of an activity's parent that have its slot at an end: how many are not met once the activity alone moves to this start. 0
+/// if no activity is given.
 pub(crate) fn unmet_then(board: &Board, alone: Option<Placed>, start: u32) -> u32
     requires { board.now.spoiled ≡ false }
     ensures { result ≤ unmet_then board.now.state start alone }

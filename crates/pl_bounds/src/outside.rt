@@ -30,8 +30,8 @@ pub(crate) struct Look {
     pub(crate) value: i64,
 }
 
-/// A timeline and one of its limits, and how often it is past that now at least. Effects up to the moment `since` do not
-/// count. It was looked at for what adds some amounts to it.
+/// A timeline and one of its limits, looks at it, and how often it is past the limit now at least. Effects up to the moment `since` do not
+/// count. For each of `amounts` it was looked where it would come past its limit if so much were added to it.
 #[derive(Drop)]
 pub(crate) struct Outside {
     pub(crate) line: u32,
@@ -44,7 +44,7 @@ pub(crate) struct Outside {
 }
 
 impl Outside {
-    /// Whether it is a level that nowhere comes so near to its limit that what it was looked at for brings it past.
+    /// Whether it is a level without looks: it is not past its limit, and none of the amounts would bring it past.
     pub(crate) fn is_clear(&self) -> bool {
         self.side != Side::Over && self.looks.is_empty()
     }
@@ -83,7 +83,7 @@ fn times_now(board: &Board, ahead: Tally, side: Side, limit: i64, looks: &[Look]
     tally.times
 }
 
-// The timeline with this limit, looked at round the spans at which it is past it.
+// The timeline with this limit, looked at around the spans in which it is past it.
 fn outside_with(
     alloc: Global,
     board: &Board,
@@ -128,7 +128,7 @@ fn outside_at(
     }
 }
 
-/// With one more, if it is not there.
+/// Appends this side of the timeline, if it is not among them and there is a limit.
 pub(crate) fn add(
     alloc: Global,
     board: &Board,

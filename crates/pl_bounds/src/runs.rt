@@ -26,7 +26,7 @@ pub(crate) struct Run {
     pub(crate) parts: Vec<Part>,
 }
 
-// With the limits that what comes may pass, where a root is added. For the many shifts of a choice it would cost more than it saves.
+// Adds the limits that what comes may pass, if the move adds a root. For the many shifts of a choice that would cost more than it saves.
 fn widen_for(
     alloc: Global,
     board: &Board,

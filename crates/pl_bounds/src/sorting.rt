@@ -110,7 +110,7 @@ pub(crate) fn parts_of(
     Ok(parts)
 }
 
-/// Whether something goes or comes of what bears on a timeline, as far as these parts tell.
+/// Whether something of these parts goes or comes on this timeline.
 pub(crate) fn bears_on(parts: &[Part], line: u32) -> bool {
     match part_on(parts, line) {
         Some(part) => !part.going.is_empty() || !part.coming.is_empty(),

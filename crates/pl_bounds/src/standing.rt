@@ -9,8 +9,8 @@ use pl_board::Board;
 use pl_conflict::{Code, Conflict, ConflictSet};
 use std::alloc::{AllocError, Global};
 
-// How many conflicts of goals and of activities there are, how many of them a shift leaves as they are but for their moments, and how
-// many hang on no value, so that an assignment leaves them.
+// How many conflicts of goals and of activities there are, how many of them a shift leaves as they are except for their moments, and how
+// many depend on no value, so that an assignment leaves them.
 #[derive(Clone, Copy)]
 struct Counts {
     wrong: u32,
@@ -18,8 +18,7 @@ struct Counts {
     valueless: u32,
 }
 
-/// How many conflicts of goals and of activities there are, how many of them a shift leaves as they are but for their moments, and how
-/// many hang on no value, so that an assignment leaves them; and the conflicts of links.
+/// These three numbers, and the conflicts of links that stand.
 #[derive(Drop)]
 pub(crate) struct Standing {
     pub(crate) wrong: u32,

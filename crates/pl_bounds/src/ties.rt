@@ -62,7 +62,7 @@ fn lone_at(board: &Board, own: &Placed, start: u32) -> u32
     }
 }
 
-/// How many links of an activity that is moved alone, or added, if there is one, find no partner where it starts then.
+/// How many links of an activity that is moved alone, or added, find no partner at this start. 0 if no activity is given.
 pub(crate) fn lone_then(board: &Board, alone: Option<Placed>, start: u32) -> u32
     requires { board.now.spoiled ≡ false }
     ensures { result ≤ lone_then board.now.state start alone }

@@ -1,5 +1,5 @@
-//! The activity that a move places alone, with its end: of its links that find no partner at the start that a move gives, and of the
-//! orders of its parent that are not met then, each is a conflict, beside those that the move does not touch.
+//! The activity that a move places alone, with its end. Once it stands at the move's start, each of its links that finds no partner is a
+//! conflict, and so is each order of its parent that is not met. None of these is among the conflicts that the move does not touch.
 ghost use Rattle.std.specs.Prelude.{◌≡◌, ◌≤◌, ◌+◌, ℕ, false};
 ghost use Rattle.pl_moves.specs.Runs.{CanBeMade};
 ghost use Rattle.pl_plan.specs.Activities.{IsLive};
@@ -15,7 +15,7 @@ use pl_board::Board;
 use pl_links::Placed;
 use pl_semantics::PlanState;
 
-/// What a shift moves, given the ids of the subtree. None where others descend from it.
+/// The activity that a shift moves, given the ids of its subtree. None if others descend from it.
 pub(crate) fn moved_alone(board: &Board, id: u32, subtree: &[u32]) -> Option<Placed>
     requires unspoiled { board.now.spoiled ≡ false }
     requires next { board.now.state.next_id ≤ 3999999000 }

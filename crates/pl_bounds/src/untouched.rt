@@ -1,5 +1,6 @@
-//! How many conflicts of links that stand a move leaves: those of other activities than it takes out, which seek another kind than it
-//! places, and which do not tell of an order in which what moves, or goes, stands.
+//! How many of the conflicts of links that stand a move does not touch. A temporal link still finds no partner if its activity neither
+//! goes nor moves, and no activity of the kind that it seeks is placed. An order is still not met if its activity neither goes nor moves,
+//! and is not the parent of what goes or moves.
 ghost use Rattle.std.specs.Prelude.{◌≡◌, ◌≤◌, ◌∷◌, ◌++◌, [], false, None, filter, length, IfOk, OnOk};
 ghost use Rattle.pl_plan.specs.Index.{is_number};
 ghost use Rattle.pl_plan.specs.Trees.{parent_of, subtree_of};
@@ -24,7 +25,8 @@ fn is_number(id: u32, parent: Option<u32>) -> bool
     }
 }
 
-// Whether it is left where activities of these ids go, and some of these kinds are placed, the uppermost of which has this parent.
+// Whether a conflict is left by a move that takes out the activities of these ids and places some of these kinds. `parent` is the parent
+// of the uppermost of these activities, if it has one.
 fn is_left(one: LinkConflict, gone: &[u32], kinds: &[u32], parent: Option<u32>) -> bool
     ensures { result ≡ is_left gone.now kinds.now parent one }
 {
@@ -55,7 +57,7 @@ fn parent_of(board: &Board, id: u32) -> Option<u32>
     Some(parent)
 }
 
-// With the kind of the activity of this id.
+// Appends the kind of the activity of this id, if it is live.
 fn add_kind(board: &Board, id: u32, kinds: &mut Vec<u32>) -> Result<(), AllocError>
     ensures { OnOk result (kinds.new.items ≡ kinds.old.items ++ of_found kind_alone (found board.now.state id)) }
 {
@@ -76,14 +78,14 @@ fn kinds_of(alloc: Global, board: &Board, ids: &[u32]) -> Result<Vec<u32>, Alloc
     Ok(kinds)
 }
 
-/// How many the addition of a root of this kind leaves.
+/// How many of these conflicts the addition of a root of this kind leaves.
 pub(crate) fn left_alone_by_new(standing: &Standing, kind: u32) -> u32
     ensures { (s : PlanState) → IsStandingOf s standing.now → result ≤ count_of_untouched s [] (kind ∷ []) None }
 {
     count_left(standing.links.as_slice(), &[], &[kind], None)
 }
 
-/// How many a deletion leaves, given the ids of the subtree that goes.
+/// How many of them a deletion leaves, given the ids of the subtree that goes.
 pub(crate) fn left_alone_by_deletion(
     board: &Board,
     standing: &Standing,
@@ -98,7 +100,7 @@ pub(crate) fn left_alone_by_deletion(
     count_left(standing.links.as_slice(), subtree, &[], parent)
 }
 
-/// How many a shift leaves, given the ids of the subtree that moves.
+/// How many of them a shift leaves, given the ids of the subtree that moves.
 pub(crate) fn left_alone_by_shift(
     alloc: Global,
     board: &Board,

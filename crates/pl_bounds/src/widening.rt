@@ -9,7 +9,7 @@ use pl_board::Board;
 use std::alloc::{AllocError, Global};
 
 impl Outside {
-    // Whether it was looked at for this amount. A capacity is not: what is in use of it is looked at where a use begins.
+    // Whether no further looks are needed for this amount. Of a capacity none ever are: it is looked at where a use begins.
     fn is_wide_enough(&self, amount: i64) -> bool {
         self.side == Side::Over || self.amounts.contains(&amount)
     }
@@ -46,7 +46,7 @@ impl Outside {
     }
 }
 
-// At which place this side of a timeline stands.
+// The place at which this side of the timeline stands, if it is among these.
 fn place_of(all: &[Outside], side: Side, line: u32) -> Option<usize>
     ensures { IfSome result (λ place. place < length all.now) }
 {
@@ -78,7 +78,7 @@ fn widen_one(
     Ok(())
 }
 
-/// With further looks for what adds so much, if this side of the timeline is looked at.
+/// Adds further looks for this amount, if this side of the timeline is among those that are looked at.
 pub(crate) fn widen_at(
     alloc: Global,
     board: &Board,

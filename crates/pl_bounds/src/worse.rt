@@ -6,7 +6,7 @@ use crate::outside::{Outside, Side};
 use crate::reading::is_past;
 use pl_semantics::Asked;
 
-// The moment from which on what is asked makes it worse, if it does.
+// From which moment on a demand makes this side of its timeline worse, if it does.
 fn worsens(side: Side, asked: &Asked) -> Option<u32> {
     match (side, asked) {
         (Side::Over, Asked::Use(u)) => Some(u.from),
@@ -16,7 +16,7 @@ fn worsens(side: Side, asked: &Asked) -> Option<u32> {
     }
 }
 
-/// A moment from one on and before another at which what comes makes it worse, if there is one.
+/// A moment from `from` on and before `to` at which what comes makes the timeline worse, if there is one.
 pub(crate) fn worse_within(
     outside: &Outside,
     change: &Change<'_>,
@@ -39,8 +39,9 @@ pub(crate) fn worse_within(
     None
 }
 
-/// Whether a timeline may be past its limit between the last look and the next one, where so much is added. A level comes past it at
-/// looks alone, so it is past it where it is at the last one; what is in use of a capacity is looked at nowhere else.
+/// Whether a timeline may be past its limit between the last look and the next one, if this is added there. A level comes past its limit
+/// mostly where there is a look, so it is taken to be past it only if it was so at the last one. A capacity has looks only around the spans
+/// in which it is past its limit, so it may be past it anywhere.
 pub(crate) fn may_be_past(outside: &Outside, last: Option<i64>, added: Added) -> bool {
     match (outside.side, last) {
         (Side::Over, _) => true,

@@ -1,4 +1,4 @@
-//! Limits of timelines that what a move adds may pass.
+//! Limits that timelines may come past by what a move places.
 ghost use Rattle.std.specs.Prelude.{◌≡◌, false, All, OnOk};
 ghost use Rattle.pl_bounds.specs.Sides.{IsOutsideOf, AreDifferent};
 
@@ -8,17 +8,17 @@ use pl_board::Board;
 use pl_semantics::{Asked, Demand};
 use std::alloc::{AllocError, Global};
 
-// Which limit of a level so much more brings nearer.
+// The limit that a level comes nearer to if this amount is added.
 fn nearer(amount: i64) -> Side {
     if amount < 0 { Side::Low } else { Side::High }
 }
 
-// Which one it takes further away.
+// The other limit.
 fn further(amount: i64) -> Side {
     if amount < 0 { Side::High } else { Side::Low }
 }
 
-// With the limits of a level, each looked at for so much more: the one that comes nearer, and the other if it is passed now.
+// Looks at a level for this amount: at the limit that it comes nearer to, and at the other one if that is among those that are looked at.
 fn widen_level(
     alloc: Global,
     board: &Board,
@@ -38,7 +38,7 @@ fn widen_level(
     Ok(())
 }
 
-// With the limits of a timeline that a demand may pass.
+// Adds the limits that a timeline may come past by a demand.
 fn widen_by(
     alloc: Global,
     board: &Board,

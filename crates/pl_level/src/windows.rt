@@ -63,7 +63,7 @@ pub(crate) fn sums_for(least: i64, most: i64, value: i64, before: i64) -> Sums
     }
 }
 
-// Whether a sum is below the least or above the most of the two.
+// Whether a sum lies below the least or above the most of these sums.
 fn is_out(sums: Sums, sum: i64) -> bool
     ensures { result ≡ is_out sums.least sums.most sum }
 {

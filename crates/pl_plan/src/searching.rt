@@ -1,6 +1,7 @@
 //! Where the activity of an id stands among activities of rising ids.
 //!
-//! Most look-ups are for activities near the end, behind which no id is missing: there the place follows from the id.
+//! Most look-ups are for activities near the end, and mostly no id is missing between such an activity and the last one: then the place
+//! follows from the id.
 ghost use Rattle.std.specs.Prelude.{IfOk, IfErr, IfSome, IsTrue, length};
 ghost use Rattle.pl_plan.specs.Activities.{AreRising};
 ghost use Rattle.pl_plan.specs.Places.{IsPlaceOf, IsGapFor};
@@ -18,7 +19,7 @@ fn is_above_all(activities: &[Activity], id: u32) -> bool
     }
 }
 
-// The place that is as far from the last one as the id is below the last id, if the activity of this id stands there.
+// The place that is as far before the last one as the id is below the last id, if the activity of this id stands there.
 fn guess(activities: &[Activity], id: u32) -> Option<usize>
     requires rising { AreRising activities.now }
     ensures { IfSome result (IsPlaceOf id activities.now) }

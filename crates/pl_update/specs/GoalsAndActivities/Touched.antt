@@ -36,7 +36,7 @@ lost_goals s gone more = flat_map (λ id. filter (λ n. not (served_after more n
 unfoldable pub met_goals : PlanState → List ℕ → List Activity → List ℕ
 met_goals s gone more = flat_map (λ a. filter (λ n. not (served_before s gone n)) (option_to_list (served_in a))) more
 
--- both
+-- the lost ones and the met ones
 abbrev pub turned_goals : PlanState → List ℕ → List Activity → List ℕ
 turned_goals s gone more = lost_goals s gone more ++ met_goals s gone more
 
