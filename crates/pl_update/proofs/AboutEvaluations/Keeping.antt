@@ -17,7 +17,7 @@ use Rattle.pl_semantics.proofs.Found.{found_id}
 use Rattle.pl_update.specs.Changes.Replaced.{replaced, CanReplace}
 use Rattle.pl_update.proofs.AboutChanges.Putting.{puttable}
 use Rattle.pl_update.proofs.AboutChanges.Finding.{found-replaced}
-use Rattle.pl_update.specs.Evaluations.Kept.{kept_at, comes_to, come_to, AreOf, KeepsUp}
+use Rattle.pl_update.specs.Evaluations.Kept.{Entries, kept_at, comes_to, come_to, AreOf, KeepsUp}
 
 -- ---- numbers among others
 
@@ -67,7 +67,7 @@ module _ (s : PlanState) (gone : List ℕ) (more : List Activity) (whole : IsWho
           ∙ ap (λ n. Some (record { values = values_of s.model s.plan.activities n; amounts = amounts_of s.model s.plan.activities n; end = end_of s.model s.plan.activities n })) (sym is)
 
   -- by what is kept of those that come, of those that go alone, and of the others
-  kept_after : (old new : List (ℕ × Evaluated)) → AreOf s old
+  kept_after : (old new : Entries) → AreOf s old
       → ((q : ℕ) → kept_at q new ≡ (if among q (map id_of more) then come_to s.model now q else (if among q gone then None else kept_at q old)))
       → (q : ℕ) → kept_at q new ≡ come_to s.model now q
   kept_after old new are is q = is q ∙ by (among q (map id_of more)) refl (among q gone) refl
@@ -77,7 +77,7 @@ module _ (s : PlanState) (gone : List ℕ) (more : List Activity) (whole : IsWho
       by false e true f = sym (goes q f e)
       by false e false f = are.each q ∙ sym (stays q f e)
 
-pub keeps_up : (t : PlanState) (gone : List ℕ) (more : List Activity) (old rest new : List (ℕ × Evaluated))
+pub keeps_up : (t : PlanState) (gone : List ℕ) (more : List Activity) (old rest new : Entries)
     → ((q : ℕ) → kept_at q rest ≡ (if among q gone then None else kept_at q old))
     → ((q : ℕ) → kept_at q new ≡ (if among q (map id_of more) then come_to t.model t.plan.activities q else kept_at q rest))
     → KeepsUp t gone more old new
