@@ -155,7 +155,8 @@ pub passed_on : (a z n m : ℕ) (xs : List Setting) → a ≤ z → n ≤ m → 
     → (take m xs ≡ front (is_passed z) xs) × (drop m xs ≡ back (is_passed z) xs)
 passed_on a z n m xs le on first rest next behind =
     let both = passed_both a z xs le in
-    let same : m ≡ n + (m - n) = omega (arith, on) in
-    (ap (λ k. take k xs) same ∙ take-add n (m - n) xs ∙ ap (λ l. l ++ take (m - n) (drop n xs)) first
-    ∙ ap (λ l. front (is_passed a) xs ++ l) (next ∙ ap (front (is_passed z)) rest) ∙ sym both.0,
-    behind ∙ ap (back (is_passed z)) rest ∙ sym both.1)
+    let same : m ≡ n + (m - n) = omega (arith, on) in (
+      ap (λ k. take k xs) same ∙ take-add n (m - n) xs ∙ ap (λ l. l ++ take (m - n) (drop n xs)) first
+          ∙ ap (λ l. front (is_passed a) xs ++ l) (next ∙ ap (front (is_passed z)) rest) ∙ sym both.0,
+      behind ∙ ap (back (is_passed z)) rest ∙ sym both.1,
+    )
