@@ -2,7 +2,7 @@ use Rattle.std.proofs.Common.{◌≡◌, ◌∷◌, ◌+◌, ◌-◌, drop, refl
 use Rattle.std.proofs.lemmas.List.{drop_more}
 use Rattle.pl_state.specs.Rows.{together}
 use Rattle.pl_state.proofs.InRows.{drop_past}
-use Rattle.pl_state.proofs.rows.Rows.within.Goals as goal
+use Rattle.pl_state.proofs.rows.Rows.row_from.Goals as goal
 
 pub loop-row-preserved : goal.loop-row-preserved
 loop-row-preserved g c =
