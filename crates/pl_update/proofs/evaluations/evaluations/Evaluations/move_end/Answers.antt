@@ -9,7 +9,7 @@ use Rattle.pl_update.proofs.evaluations.evaluations.Evaluations.move_end.Goals.{
 
 pub returns : goal.returns
 returns c q = elim c.match-get_mut.branch [
-    in-Some w ↦ (
+  | in-Some w ↦ (
       let old = c.self.inside.by_id.entries in
       let e = w.in-Some.evaluated.now in
       let m = w.move_along.new.evaluated in
@@ -26,4 +26,5 @@ returns c q = elim c.match-get_mut.branch [
       ap (λ s. kept_at q s.by_id.entries) w.self-inside-is
       ∙ ap (λ m. kept_at q m.entries) c.get_mut.follows.holds-at-none
       ∙ none_moved old c.args.id c.args.from c.args.to none q
-      ∙ ap (λ l. if c.args.id == q then option_map (moved c.args.from c.args.to) (kept_at q l) else kept_at q l) c.self.view_is) ]
+      ∙ ap (λ l. if c.args.id == q then option_map (moved c.args.from c.args.to) (kept_at q l) else kept_at q l) c.self.view_is)
+]
