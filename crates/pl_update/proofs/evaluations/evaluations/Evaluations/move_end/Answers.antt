@@ -1,7 +1,7 @@
-use Rattle.std.proofs.Common.{◌≡◌, ℕ, Some, None, sym, ap, ◌∙◌, refl}
+use Rattle.std.proofs.Common.{◌≡◌, Some, None, sym, ap, ◌∙◌, refl}
 use Rattle.std.specs.Prelude.{◌==◌, if◌then◌else◌}
 use Rattle.std.specs.Option.{option_map}
-use Rattle.pl_update.specs.Evaluations.Kept.{Entries, kept_at}
+use Rattle.pl_update.specs.Evaluations.Kept.{kept_at}
 use Rattle.pl_update.specs.Evaluations.Shifted.{moved}
 use Rattle.pl_update.proofs.AboutEvaluations.Reading.{kept_then, kept_moved, none_moved}
 use Rattle.pl_update.proofs.evaluations.evaluations.Evaluations.move_end.Goals as goal
