@@ -36,8 +36,7 @@ pub mod Around
 pub mod Others
 pub mod Staying
 pub mod Knowing
-pub mod Parted
-pub mod Lasting
+pub mod StepSums
 pub mod Slots
 pub mod Indexed
 pub mod Misplaced

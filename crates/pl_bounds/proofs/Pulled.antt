@@ -1,6 +1,5 @@
--- What demands make of a timeline: one more of them, none moved, and the uses or the effects among them.
-use Rattle.std.proofs.Common.{◌≡◌, ℕ, ◌+◌, ◌<◌, Bool, true, false, cond, eqb, List, [], ◌∷◌, length, get_or, drop, map, refl, sym, ap, ◌∙◌, add-one, ℤ, pos, ◌+ℤ◌, arith}
-use Rattle.std.proofs.Math.Seq.{drop-cons}
+-- What demands make of a timeline: the uses or the effects among them.
+use Rattle.std.proofs.Common.{◌≡◌, ℕ, Bool, true, false, cond, eqb, List, [], ◌∷◌, refl, ℤ, pos, ◌+ℤ◌, arith}
 use Rattle.std.proofs.lemmas.Int.{ints}
 use Rattle.pl_points.specs.Sums.{total}
 use Rattle.pl_capacity.specs.Uses.{taken_at}
@@ -10,37 +9,9 @@ use Rattle.pl_semantics.specs.declared.demand.Asked.{Asked}
 use Rattle.pl_semantics.specs.declared.demand.Asked.TheVariants as asked
 use Rattle.pl_semantics.specs.Demands.{asked_of, use_in, effect_in, uses_of, effects_of}
 use Rattle.pl_update.proofs.AboutTimelines.Listing.{total-append}
-use Rattle.pl_bounds.specs.Afterwards.{asked_on, pull_of, pull}
-use Rattle.pl_bounds.specs.Moved.{moved_to, asked_moved, demand_moved}
+use Rattle.pl_bounds.specs.Afterwards.{asked_on}
 use Rattle.pl_bounds.specs.declared.outside.Side.{Side}
 use Rattle.pl_bounds.specs.declared.outside.Side.TheVariants.{Over, Low, High}
-use Rattle.pl_bounds.specs.declared.outside.Outside.{Outside}
-
--- ---- one more
-
-next_one : (ds : List Demand) (i : ℕ) (d : Demand) → i < length ds → drop i ds ≡ get_or ds i d ∷ drop (i + 1) ds
-next_one ds i d lt = drop-cons ds i d lt ∙ ap (λ (n : ℕ). get_or ds i d ∷ drop n ds) (sym (add-one i))
-
-pub pull_next : (o : Outside) (t from to : ℕ) (ds : List Demand) (i : ℕ) (d : Demand) (z : ℤ) → i < length ds → z ≡ pull_of o t (demand_moved from to (get_or ds i d))
-    → pull o t (map (demand_moved from to) (drop i ds)) ≡ z +ℤ pull o t (map (demand_moved from to) (drop (i + 1) ds))
-pull_next o t from to ds i d z lt is =
-    ap (λ (xs : List Demand). pull o t (map (demand_moved from to) xs)) (next_one ds i d lt)
-    ∙ ap (λ (y : ℤ). y +ℤ pull o t (map (demand_moved from to) (drop (i + 1) ds))) (sym is)
-
--- ---- none moved
-
-still : (t : ℕ) → moved_to 0 0 t ≡ t
-still t = omega arith
-
-asked_still : (a : Asked) → asked_moved 0 0 a ≡ a
-asked_still (asked.Use u) = ap (λ (f : ℕ). asked.Use (record u { from = f; to = moved_to 0 0 u.to })) (still u.from) ∙ ap (λ (e : ℕ). asked.Use (record u { to = e })) (still u.to)
-asked_still (asked.Effect e) = ap (λ (n : ℕ). asked.Effect (record e { at = n })) (still e.at)
-asked_still (asked.Set x) = ap (λ (n : ℕ). asked.Set (record x { at = n })) (still x.at)
-asked_still (asked.Must m) = ap (λ (f : ℕ). asked.Must (record m { from = f; to = moved_to 0 0 m.to })) (still m.from) ∙ ap (λ (e : ℕ). asked.Must (record m { to = e })) (still m.to)
-
-pub all_still : (ds : List Demand) → map (demand_moved 0 0) ds ≡ ds
-all_still [] = refl
-all_still (d ∷ ds) = ap (λ (a : Asked). record d { asked = a } ∷ map (demand_moved 0 0) ds) (asked_still d.asked) ∙ ap (λ (xs : List Demand). d ∷ xs) (all_still ds)
 
 -- ---- uses or effects
 

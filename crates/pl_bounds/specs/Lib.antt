@@ -27,7 +27,7 @@ pub mod Known
 pub mod Standing
 pub mod Windows
 pub mod Afterwards
-pub mod Parted
+pub mod Steps
 pub mod Changed
 pub mod Tallies
 pub mod Looks

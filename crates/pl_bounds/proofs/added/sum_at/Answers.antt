@@ -1,21 +1,17 @@
-use Rattle.std.proofs.Common.{◌≡◌, ◌-ℤ◌, ap, ◌∙◌, arith}
+use Rattle.std.proofs.Common.{◌≡◌, ◌+◌, ◌+ℤ◌, drop, arith}
 use Rattle.std.proofs.lemmas.Int.{ints}
-use mir.Val.{to_z, of_z, SFits}
-use mir.Syntax.{w64}
-use Rattle.pl_bounds.specs.Afterwards.{pull, moved_by}
-use Rattle.pl_bounds.specs.Changed.{added_by}
-use Rattle.pl_bounds.proofs.Lasting.{some_is}
-use Rattle.pl_bounds.proofs.Pulled.{all_still}
+use Rattle.pl_bounds.specs.Steps.{steps_on}
+use Rattle.pl_bounds.proofs.StepSums.{steps_next}
 use Rattle.pl_bounds.proofs.added.sum_at.Goals as goal
 
-pub returns : goal.returns
-returns c =
+pub loop-step-preserved : goal.loop-step-preserved
+loop-step-preserved c =
     let o = c.args.outside.now in
-    let change = c.args.change.now in
+    let w = c.args.change.now.way in
     let t = c.args.t in
-    let going : c.in_ok-going.going ≡ pull o t change.going.now = c.in_ok-going.ensures ∙ ap (pull o t) (all_still change.going.now) in
-    let coming : c.in_ok-coming.coming ≡ pull o t (moved_by change.way change.coming.now) = c.in_ok-coming.ensures in
-    let x = to_z w64 (of_z w64 c.in_ok-coming.coming) -ℤ to_z w64 (of_z w64 c.in_ok-going.going) in
-    let y = added_by o change.going.now (moved_by change.way change.coming.now) t in
-    let less : x ≡ y = omega (arith, ints, going, coming) in
-    some_is c.checked_sub.result (SFits w64 x) x y c.checked_sub.ensures less
+    let steps = c.args.change.now.steps.now in
+    let i = c.loop-step.step-index in
+    let z = c.in_ok-more.more in
+    let rest : steps_on o w t (drop i steps) ≡ z +ℤ steps_on o w t (drop (i + 1) steps) = steps_next o w t steps i _ z c.loop-step-test.true c.in_ok-more.ensures in
+    let sum = c.in_ok-sum.ensures in
+    omega (arith, ints, rest, sum, c.loop-step.invariant)
