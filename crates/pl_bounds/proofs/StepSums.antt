@@ -29,19 +29,12 @@ use Rattle.pl_bounds.proofs.Past.{same_spans}
 next_of : {T : Type 0} (f : T → ℤ) (xs : List T) (i : ℕ) (x : T) → i < length xs → total f (drop i xs) ≡ f (get_or xs i x) +ℤ total f (drop (i + 1) xs)
 next_of f xs i x lt = ap (total f) (drop-cons xs i x lt ∙ ap (λ (n : ℕ). get_or xs i x ∷ drop n xs) (sym (add-one i)))
 
-pub steps_next : (o : Outside) (w : Way) (t : ℕ) (steps : List Step) (i : ℕ) (step : Step) (z : ℤ) → i < length steps → z ≡ step_on o w t (get_or steps i step)
-    → steps_on o w t (drop i steps) ≡ z +ℤ steps_on o w t (drop (i + 1) steps)
-steps_next o w t steps i step z lt is = next_of (step_on o w t) steps i step lt ∙ ap (λ (y : ℤ). y +ℤ steps_on o w t (drop (i + 1) steps)) (sym is)
-
--- if the first of the rest adds the same at both moments, and those behind it do
-pub lasts_next : (o : Outside) (w : Way) (t u : ℕ) (steps : List Step) (i : ℕ) (step : Step) → i < length steps
-    → step_on o w u (get_or steps i step) ≡ step_on o w t (get_or steps i step)
-    → steps_on o w u (drop (i + 1) steps) ≡ steps_on o w t (drop (i + 1) steps)
-    → steps_on o w u (drop i steps) ≡ steps_on o w t (drop i steps)
-lasts_next o w t u steps i step lt here same =
-    let before = next_of (step_on o w t) steps i step lt in
-    let after = next_of (step_on o w u) steps i step lt in
-    omega (arith, ints, here, same, before, after)
+-- what was added and the rest add what all add, one further
+pub sum_next : (o : Outside) (w : Way) (t : ℕ) (steps : List Step) (i : ℕ) (step : Step) (sum more : ℤ) → i < length steps → more ≡ sum +ℤ step_on o w t (get_or steps i step)
+    → (sum +ℤ steps_on o w t (drop i steps)) ≡ steps_on o w t steps → (more +ℤ steps_on o w t (drop (i + 1) steps)) ≡ steps_on o w t steps
+sum_next o w t steps i step sum more lt grown same =
+    let next = next_of (step_on o w t) steps i step lt in
+    omega (arith, ints, grown, same, next)
 
 -- where it fits
 pub some_is : (o : Option ℤ) (P : Type 0) (x y : ℤ) → SomeIff o P x → x ≡ y → IfSome o (λ v. v ≡ y)

@@ -4,7 +4,7 @@ ghost use Rattle.pl_bounds.specs.declared.outside.Outside as looked;
 ghost use Rattle.pl_bounds.specs.declared.steps.Step as taken;
 ghost use Rattle.pl_bounds.specs.declared.steps.Way as ways;
 ghost use Rattle.pl_bounds.specs.Changed.{IsAddedBy};
-ghost use Rattle.pl_bounds.specs.Steps.{steps_on};
+ghost use Rattle.pl_bounds.specs.Steps.{step_on, steps_on};
 
 use crate::outside::{Look, Outside};
 use crate::steps::{Step, Way};
@@ -39,6 +39,29 @@ impl Added {
         }
     }
 
+    // With one step more, if the sum fits.
+    fn with(self, outside: &Outside, step: Step, way: Way) -> Option<Added>
+        ensures from { IfSome result (λ a. a.from ≡ self.from) }
+        ensures until { IfSome result (λ a. a.until ≤ self.until) }
+        ensures by { IfSome result (λ a. (u : ℕ) → self.from ≤ u → u < a.until → a.by ≡ self.by +ℤ step_on outside.now way u step) }
+    {
+        let at = step.moment(way);
+        if u64::from(self.from) < at {
+            return Some(Added {
+                by: self.by,
+                from: self.from,
+                until: self.until.min(at),
+            });
+        }
+        let more = step.by(outside, at)?;
+        let by = self.by.checked_add(more)?;
+        Some(Added {
+            by,
+            from: self.from,
+            until: self.until,
+        })
+    }
+
     /// Whether it is known how much is added at a moment.
     pub(crate) fn is_known_at(self, at: u32) -> bool
         ensures from { IsTrue result → self.from ≤ at }
@@ -59,38 +82,28 @@ impl Added {
     }
 }
 
-// How much is added at a moment, where the sums fit.
-fn sum_at(outside: &Outside, change: &Change<'_>, t: u32) -> Option<i64>
-    ensures { IfSome result (λ by. by ≡ steps_on outside.now change.now.way t change.now.steps.now) }
+// How much is added from a moment on, and up to when, where the sums fit.
+fn sum_at(outside: &Outside, change: &Change<'_>, t: u32) -> Option<Added>
+    ensures { IfSome result (λ a. IsAddedBy outside.now change.now.way change.now.steps.now a) }
 {
-    let mut sum: i64 = 0;
+    let mut added = Added {
+        by: 0,
+        from: t,
+        until: EVER,
+    };
     let steps = change.steps;
     for step in steps {
-        let more = step.adds(outside, change.way, t)?;
-        sum = sum.checked_add(more)?;
+        added = added.with(outside, *step, change.way)?;
     }
-    Some(sum)
+    Some(added)
 }
 
-// Up to when as much is added as at this moment.
-fn until_of(change: &Change<'_>, t: u32) -> u64
-    ensures { (o : looked.Outside) (u : ℕ) → t ≤ u → u < result → steps_on o change.now.way u change.now.steps.now ≡ steps_on o change.now.way t change.now.steps.now }
-{
-    let mut until = EVER;
-    let steps = change.steps;
-    for step in steps {
-        until = until.min(step.lasts(change.way, t));
-    }
-    until
-}
-
-/// How much is added from a moment on, and up to when.
+/// The same. If the sums do not fit, it is known of no moment how much is added.
 pub(crate) fn added_at(outside: &Outside, change: &Change<'_>, t: u32) -> Added
     ensures { IsAddedBy outside.now change.now.way change.now.steps.now result }
 {
-    let until = until_of(change, t);
     match sum_at(outside, change, t) {
-        Some(by) => Added { by, from: t, until },
+        Some(added) => added,
         None => Added::unknown(),
     }
 }

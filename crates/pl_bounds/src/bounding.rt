@@ -1,5 +1,5 @@
 //! How often timelines are past their limits at least, once some demands went and others came.
-ghost use Rattle.std.specs.Prelude.{◌≡◌, ◌≤◌, ℕ, Bool, List, false, All, IfSome, length};
+ghost use Rattle.std.specs.Prelude.{◌≡◌, ◌≤◌, ℕ, Bool, List, [], false, All, IfSome, IsTrue, length};
 ghost use Rattle.pl_update.specs.Changes.Replaced.{CanReplace, with_plan};
 ghost use Rattle.pl_update.specs.Timelines.Laws.{AreOnce};
 ghost use Rattle.pl_plan.specs.declared.activity.Activity.{Activity};
@@ -16,7 +16,7 @@ ghost use Rattle.pl_bounds.specs.Tallies.{fresh, IsTallyOf};
 
 use crate::added::{Added, Change, added_at};
 use crate::asking::Asking;
-use crate::outside::{Look, Outside};
+use crate::outside::{Look, Outside, Side};
 use crate::reading::{is_past, value_at};
 use crate::sorting::Addition;
 use crate::steps::Way;
@@ -143,6 +143,15 @@ fn is_steady(walk: Walk) -> bool {
     u64::from(walk.tally.end) <= walk.added.until
 }
 
+// Whether the timeline may be past its limit behind the last look.
+fn may_be_past_behind(walk: Walk, outside: &Outside, change: &Change<'_>) -> bool {
+    if outside.side == Side::Over {
+        return true;
+    }
+    let last = walk.tally.end.saturating_sub(1);
+    may_be_past(outside, walk.last, added_at(outside, change, last))
+}
+
 // How often at least the timeline is past its limit, once all looks are noted. If as much is added up to the end, the rest needs no look.
 fn times_behind(board: &Board, walk: Walk, outside: &Outside, change: &Change<'_>) -> u32
     requires unspoiled { board.now.spoiled ≡ false }
@@ -150,12 +159,10 @@ fn times_behind(board: &Board, walk: Walk, outside: &Outside, change: &Change<'_
     requires walk { IsWalkOf board.now.state outside.now change.now.way change.now.steps.now walk }
     ensures { result ≤ length (spans_ahead board.now.state (is_past_by board.now.state outside.now change.now.way change.now.steps.now)) }
 {
-    if is_steady(walk) {
+    if is_steady(walk) || !may_be_past_behind(walk, outside, change) {
         walk.tally.times
     } else {
-        let end = walk.tally.end;
-        let added = added_at(outside, change, end.saturating_sub(1));
-        looked_between(board, walk, outside, change, added, end).times
+        looked_before(board, walk.tally, outside, change, walk.tally.end).times
     }
 }
 
@@ -178,6 +185,13 @@ fn times_of(board: &Board, ahead: Tally, outside: &Outside, change: &Change<'_>)
     times_behind(board, walk, outside, change)
 }
 
+// Whether the move leaves the timeline as it is.
+fn is_nothing(change: &Change<'_>) -> bool
+    ensures { IsTrue result → change.now.steps.now ≡ [] }
+{
+    change.steps.is_empty()
+}
+
 // The same. If nothing is added to this timeline, it is past its limit as often as it is now.
 fn times_by(board: &Board, ahead: Tally, outside: &Outside, change: &Change<'_>) -> u32
     requires unspoiled { board.now.spoiled ≡ false }
@@ -185,7 +199,7 @@ fn times_by(board: &Board, ahead: Tally, outside: &Outside, change: &Change<'_>)
     requires ahead { (P : ℕ → Bool) → IsTallyOf P board.now.state.moment board.now.state.model.horizon ahead }
     ensures { result ≤ length (spans_ahead board.now.state (is_past_by board.now.state outside.now change.now.way change.now.steps.now)) }
 {
-    if change.steps.is_empty() {
+    if is_nothing(change) {
         outside.times
     } else {
         times_of(board, ahead, outside, change)

@@ -1,13 +1,10 @@
 //! The steps by which a move changes what a timeline comes to.
-ghost use Rattle.std.specs.Prelude.{◌≡◌, ◌≤◌, ◌<◌, ℕ, IfSome};
-ghost use Rattle.pl_bounds.specs.declared.outside.Outside as looked;
+ghost use Rattle.std.specs.Prelude.{◌≡◌, ◌≤◌, ℕ, IfSome};
+ghost use Rattle.pl_bounds.specs.declared.steps.Way as ways;
 ghost use Rattle.pl_bounds.specs.Moved.{moved_to};
 ghost use Rattle.pl_bounds.specs.Steps.{moment_along, is_counted, step_by, step_on};
 
 use crate::outside::{Outside, Side};
-
-// After every moment.
-const EVER: u64 = u64::MAX;
 
 /// So much later or earlier.
 #[derive(Clone, Copy)]
@@ -78,24 +75,15 @@ impl Step {
         }
     }
 
-    /// What it adds to a timeline at a moment, if that fits.
-    pub(crate) fn adds(self, outside: &Outside, way: Way, t: u32) -> Option<i64>
-        ensures { IfSome result (λ z. z ≡ step_on outside.now way t self) }
+    /// What it adds to a timeline from its moment on, if that fits.
+    pub(crate) fn by(self, outside: &Outside, at: u64) -> Option<i64>
+        ensures { (w : ways.Way) (t : ℕ) → at ≡ moment_along w self → at ≤ t → IfSome result (λ z. z ≡ step_on outside.now w t self) }
     {
-        let at = self.moment(way);
-        if at <= u64::from(t) && is_counted(outside, at) {
+        if is_counted(outside, at) {
             self.gain.checked_sub(self.loss)
         } else {
             Some(0)
         }
-    }
-
-    /// Up to which moment, from this one on, it adds the same.
-    pub(crate) fn lasts(self, way: Way, t: u32) -> u64
-        ensures { (o : looked.Outside) (u : ℕ) → t ≤ u → u < result → step_on o way u self ≡ step_on o way t self }
-    {
-        let at = self.moment(way);
-        if u64::from(t) < at { at } else { EVER }
     }
 
     /// Whether it makes this side of its timeline worse, and comes.

@@ -12,4 +12,4 @@ pub returns-else-is_steady : goal.returns-else-is_steady
 returns-else-is_steady c =
     let s = c.args.board.now.state in
     let change = c.args.change.now in
-    times_few (is_past_by s c.args.outside.now change.way change.steps.now) s.moment s.model.horizon c.looked_between.result c.looked_between.ensures
+    times_few (is_past_by s c.args.outside.now change.way change.steps.now) s.moment s.model.horizon c.looked_before.result c.looked_before.ensures
