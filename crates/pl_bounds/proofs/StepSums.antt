@@ -77,19 +77,6 @@ module _ (w : Way) (t : ℕ) where
   span_adds since true u lt = span_of (moved_to w.from w.to u.from) (moved_to w.from w.to u.to) u.amount (omega (arith, lt))
   span_adds since false u lt = back_of (leb u.from t) (leb u.to t) u.amount ∙ ap neg_ℤ (span_of u.from u.to u.amount (omega (arith, lt)))
 
-  none_of : (f e : ℕ) (z : ℤ) → e ≤ f → cond (leb f t && ltb t e) z (pos 0) ≡ pos 0
-  none_of f e z le = by (leb f t) refl (ltb t e) refl
-    where
-      by : (b : Bool) → leb f t ≡ b → (d : Bool) → ltb t e ≡ d → cond (b && d) z (pos 0) ≡ pos 0
-      by true p true r = absurd (omega (arith, le, leb-true f t p, ltb-true t e r))
-      by true p false r = refl
-      by false p d r = refl
-
-  -- one that ends before it begins
-  pub no_span : (since : ℕ) (comes : Bool) (u : Use) → u.to ≤ u.from → asked_toward Over since w t comes (asked.Use u) ≡ pos 0
-  no_span since true u le = none_of (moved_to w.from w.to u.from) (moved_to w.from w.to u.to) u.amount (omega (arith, le))
-  no_span since false u le = ap neg_ℤ (none_of u.from u.to u.amount le)
-
   change_of : (since at : ℕ) (z : ℤ) → cond (leb at t && ltb since at) (z -ℤ pos 0) (pos 0) ≡ cond (ltb since at && leb at t) z (pos 0)
   change_of since at z = by (leb at t) (ltb since at)
     where
@@ -117,18 +104,36 @@ module _ (w : Way) (t : ℕ) where
   high_adds since true e = change_of since (moved_to w.from w.to e.at) e.delta
   high_adds since false e = taken_of since e.at e.delta
 
-  -- what asks nothing of this side
-  pub none_low : (since : ℕ) (comes : Bool) (u : Use) → asked_toward Low since w t comes (asked.Use u) ≡ pos 0
-  none_low since true u = refl
-  none_low since false u = refl
+-- ---- steps that are put behind others
 
-  pub none_high : (since : ℕ) (comes : Bool) (u : Use) → asked_toward High since w t comes (asked.Use u) ≡ pos 0
-  none_high since true u = refl
-  none_high since false u = refl
+pub pushed : (o : Outside) (w : Way) (t : ℕ) (steps more : List Step) (step : Step) → more ≡ steps ++ step ∷ [] → steps_on o w t more ≡ steps_on o w t steps +ℤ step_on o w t step
+pushed o w t steps more step is = ap (λ (xs : List Step). steps_on o w t xs) is ∙ total-push (step_on o w t) steps step
 
-  pub none_over : (since : ℕ) (comes : Bool) (e : Effect) → asked_toward Over since w t comes (asked.Effect e) ≡ pos 0
-  none_over since true e = refl
-  none_over since false e = refl
+module _ (o : Outside) (w : Way) (t : ℕ) (comes : Bool) where
+  -- what is asked for adds, on the side that the timeline is looked at from
+  abbrev toward : Side → Asked → ℤ
+  toward side a = asked_toward side o.since w t comes a
+
+  pub span_pushed : (u : Use) (steps one both : List Step) → o.side ≡ Over → u.from < u.to
+      → one ≡ steps ++ step_by u.from u.amount comes comes ∷ [] → both ≡ one ++ step_by u.to u.amount (not comes) comes ∷ []
+      → steps_on o w t both ≡ steps_on o w t steps +ℤ toward o.side (asked.Use u)
+  span_pushed u steps one both over lt first second =
+      let a = pushed o w t steps one (step_by u.from u.amount comes comes) first in
+      let b = pushed o w t one both (step_by u.to u.amount (not comes) comes) second in
+      let all = subst (λ (side : Side). (step_at side o.since w t (step_by u.from u.amount comes comes) +ℤ step_at side o.since w t (step_by u.to u.amount (not comes) comes)) ≡ toward side (asked.Use u)) (sym over) (span_adds w t o.since comes u lt) in
+      omega (arith, ints, a, b, all)
+
+  pub low_pushed : (e : Effect) (steps more : List Step) → o.side ≡ Low → more ≡ steps ++ step_by e.at e.delta comes comes ∷ [] → steps_on o w t more ≡ steps_on o w t steps +ℤ toward o.side (asked.Effect e)
+  low_pushed e steps more low is =
+      let a = pushed o w t steps more (step_by e.at e.delta comes comes) is in
+      let same = subst (λ (side : Side). step_at side o.since w t (step_by e.at e.delta comes comes) ≡ toward side (asked.Effect e)) (sym low) (low_adds w t o.since comes e) in
+      omega (arith, ints, a, same)
+
+  pub high_pushed : (e : Effect) (steps more : List Step) → o.side ≡ High → more ≡ steps ++ step_by e.at e.delta comes comes ∷ [] → steps_on o w t more ≡ steps_on o w t steps +ℤ toward o.side (asked.Effect e)
+  high_pushed e steps more high is =
+      let a = pushed o w t steps more (step_by e.at e.delta comes comes) is in
+      let same = subst (λ (side : Side). step_at side o.since w t (step_by e.at e.delta comes comes) ≡ toward side (asked.Effect e)) (sym high) (high_adds w t o.since comes e) in
+      omega (arith, ints, a, same)
 
 -- ---- the steps of all demands
 
@@ -146,6 +151,10 @@ going_all o w t (d ∷ ds) =
     let one = going_one (eqb d.line o.line) (asked_on o.side o.since t d.asked) in
     let more = going_all o w t ds in
     omega (arith, ints, one, more)
+
+-- those of what goes and behind them those of what comes
+pub with_both : (none first all out back going coming : ℤ) → none ≡ pos 0 → first ≡ none +ℤ out → all ≡ first +ℤ back → out ≡ neg_ℤ going → back ≡ coming → all ≡ coming -ℤ going
+with_both none first all out back going coming is goes comes less more = omega (arith, ints, is, goes, comes, less, more)
 
 -- ---- how often a timeline is past its limit
 

@@ -206,7 +206,16 @@ fn times_by(board: &Board, ahead: Tally, outside: &Outside, change: &Change<'_>)
     }
 }
 
-// The same once what goes is gone, and what comes stands at this start. A level without looks is taken to be nowhere past its limit.
+// Whether this is what the move adds at this limit, and the timeline has looks if it is a level. A level without looks is taken to be
+// nowhere past its limit.
+fn is_looked_at(outside: &Outside, addition: &Addition) -> bool
+    ensures line { IsTrue result → outside.now.line ≡ addition.now.line }
+    ensures side { IsTrue result → outside.now.side ≡ addition.now.side }
+{
+    !outside.is_clear() && addition.is_of(outside)
+}
+
+// The same once what goes is gone, and what comes stands at this start.
 fn times_with(
     board: &Board,
     ahead: Tally,
@@ -221,17 +230,18 @@ fn times_with(
     requires addition { IsAdditionOf asking.now addition.now }
     ensures { result ≤ length (spans_ahead board.now.state (is_past_with board.now.state outside.now asking.now.going.items (coming_at asking.now start))) }
 {
-    if outside.is_clear() || !addition.is_of(outside) {
-        return 0;
+    if is_looked_at(outside, addition) {
+        let change = Change {
+            steps: addition.steps.as_slice(),
+            way: Way {
+                from: asking.start,
+                to: start,
+            },
+        };
+        times_by(board, ahead, outside, &change)
+    } else {
+        0
     }
-    let change = Change {
-        steps: addition.steps.as_slice(),
-        way: Way {
-            from: asking.start,
-            to: start,
-        },
-    };
-    times_by(board, ahead, outside, &change)
 }
 
 // The same, if it is known what the move adds at this limit.

@@ -41,8 +41,10 @@ fn add_span(asked: Use, comes: bool, steps: &mut Vec<Step>) -> Result<(), AllocE
     if asked.from >= asked.to {
         return Ok(());
     }
-    steps.push(Step::new(asked.from, asked.amount, comes, comes))?;
-    steps.push(Step::new(asked.to, asked.amount, !comes, comes))?;
+    let begins = Step::new(asked.from, asked.amount, comes, comes);
+    let ends = Step::new(asked.to, asked.amount, !comes, comes);
+    steps.push(begins)?;
+    steps.push(ends)?;
     Ok(())
 }
 
@@ -65,7 +67,8 @@ fn add_change(asked: Effect, comes: bool, steps: &mut Vec<Step>) -> Result<(), A
     ensures high { OnOk result ((o : looked.Outside) (w : ways.Way) (t : ℕ) → o.side ≡ sides.High
         → steps_on o w t steps.new.items ≡ steps_on o w t steps.old.items +ℤ asked_toward o.side o.since w t comes (wanted.Effect asked)) }
 {
-    steps.push(Step::new(asked.at, asked.delta, comes, comes))?;
+    let begins = Step::new(asked.at, asked.delta, comes, comes);
+    steps.push(begins)?;
     Ok(())
 }
 
@@ -144,9 +147,11 @@ fn addition_of(
 ) -> Result<Addition, AllocError>
     ensures { IfOk result (IsAdditionOf asking.now) }
 {
+    let going = asking.going.as_slice();
+    let coming = asking.coming.as_slice();
     let mut steps = Vec::new(alloc);
-    add_demands(outside, asking.going.as_slice(), false, &mut steps)?;
-    add_demands(outside, asking.coming.as_slice(), true, &mut steps)?;
+    add_demands(outside, going, false, &mut steps)?;
+    add_demands(outside, coming, true, &mut steps)?;
     Ok(Addition {
         line: outside.line,
         side: outside.side,
