@@ -71,18 +71,18 @@ governed base t v (y ∷ ys) sorted = by (counts base t y) refl (governed base t
 
 -- ---- two that govern are one
 
-none_has : (k : Setting) (x : Setting) (xs : List Setting) → NoneHas set_key (set_key k) xs → Has x xs → set_key x ≡ set_key k → ⊥
+pub none_has : (k : Setting) (x : Setting) (xs : List Setting) → NoneHas set_key (set_key k) xs → Has x xs → set_key x ≡ set_key k → ⊥
 none_has k x [] none has e = absurd has
 none_has k x (y ∷ ys) none has e = elim has [ inl f ↦ none.0 (ap set_key f ∙ e) | inr more ↦ none_has k x ys none.1 more e ]
 
-one_key : (x z : Setting) (xs : List Setting) → AreDistinct set_key xs → Has x xs → Has z xs → set_key x ≡ set_key z → x ≡ z
+pub one_key : (x z : Setting) (xs : List Setting) → AreDistinct set_key xs → Has x xs → Has z xs → set_key x ≡ set_key z → x ≡ z
 one_key x z [] distinct one two e = absurd one
 one_key x z (y ∷ ys) distinct one two e = elim one [
   | inl f ↦ elim two [ inl g ↦ sym f ∙ g | inr more ↦ absurd (none_has y z ys distinct.0 more (sym e ∙ ap set_key (sym f))) ]
   | inr less ↦ elim two [ inl g ↦ absurd (none_has y x ys distinct.0 less (e ∙ ap set_key (sym g))) | inr more ↦ one_key x z ys distinct.1 less more e ]
 ]
 
-same_key : (x z : Setting) → key_before (set_key x) (set_key z) ≡ false → key_before (set_key z) (set_key x) ≡ false → set_key x ≡ set_key z
+pub same_key : (x z : Setting) → key_before (set_key x) (set_key z) ≡ false → key_before (set_key z) (set_key x) ≡ false → set_key x ≡ set_key z
 same_key x z one two =
     let p = follows (set_key x) (set_key z) one in
     let q = follows (set_key z) (set_key x) two in
@@ -125,7 +125,7 @@ key_at x z lt = not_before (set_key x) (set_key z) (omega (arith, lt), λ s. abs
 
 -- each that is only among one of both leaves a state that differs from the one at the moment
 module _ (base t v : ℕ) (xs ys : List Setting) (sorted : AreSorted set_key xs) (distinct : AreDistinct set_key xs) (sorted' : AreSorted set_key ys) (distinct' : AreDistinct set_key ys)
-    (Moves : Setting → Type 0) (goes : (x : Setting) → Has x xs → Has x ys ⊎ Moves x) (comes : (x : Setting) → Has x ys → Has x xs ⊎ Moves x)
+    (Moves : Setting → Type 0) (goes : (x : Setting) → Has x xs → counts base t x ≡ true → Has x ys ⊎ Moves x) (comes : (x : Setting) → Has x ys → Has x xs ⊎ Moves x)
     (others : (x : Setting) → Moves x → x.at ≤ t → state_from base x.at v xs ≢ state_from base t v xs) where
   -- what counts where it moves stands before the one that governs
   earlier : (x : Setting) → Governs base t x xs → state_from base t v xs ≡ x.state → (z : Setting) → Moves z → counts base t z ≡ true → z.at < x.at
@@ -146,7 +146,7 @@ module _ (base t v : ℕ) (xs ys : List Setting) (sorted : AreSorted set_key xs)
     where
       by : Governed base t v xs → state_from base t v ys ≡ state_from base t v xs
       by (inl (x, h)) = state_governed base t v ys sorted' distinct' x (record {
-        there = elim (goes x h.governs.there) [ inl stays ↦ stays | inr moves ↦ absurd (let lt = earlier x h.governs h.state x moves h.governs.here in omega (arith, lt)) ];
+        there = elim (goes x h.governs.there h.governs.here) [ inl stays ↦ stays | inr moves ↦ absurd (let lt = earlier x h.governs h.state x moves h.governs.here in omega (arith, lt)) ];
         here = h.governs.here;
         last = λ z has c. elim (comes z has) [ inl was ↦ h.governs.last z was c | inr moves ↦ key_at x z (earlier x h.governs h.state z moves c) ];
       }) ∙ sym h.state

@@ -49,3 +49,12 @@ pub mod Gathered
 pub mod Remaining
 pub mod Together
 pub mod Listed
+pub mod Governing
+pub mod Having
+pub mod States
+pub mod Needed
+pub mod Reserved
+pub mod Bare
+pub mod Marking
+pub mod Chosen
+pub mod Steps

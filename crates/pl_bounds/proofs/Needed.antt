@@ -11,6 +11,7 @@ use Rattle.pl_points.proofs.Cuts.{within_yes}
 use Rattle.pl_model.specs.declared.timelines.Timeline.{Timeline}
 use Rattle.pl_model.specs.declared.timelines.Timeline.TheVariants.{States}
 use Rattle.pl_conflict.specs.declared.conflict.Conflict.{Conflict}
+use Rattle.pl_conflict.specs.declared.conflict.Code.TheVariants as code
 use Rattle.pl_conflict.specs.Order.{has}
 use Rattle.pl_conflict.proofs.Sorting.{same, has-append, same_itself}
 use Rattle.pl_detect.specs.Based.{IsStateLine}
@@ -27,9 +28,9 @@ use Rattle.pl_semantics.specs.Links.{link_conflicts}
 use Rattle.pl_semantics.specs.Timelines.{unmet_must, musts, bad_steps, line_conflicts, timeline_conflicts}
 use Rattle.pl_semantics.specs.Conflicts.{conflicts_of}
 use Rattle.pl_semantics.proofs.Standing.{members}
-use Rattle.pl_bounds.specs.Unmet.{musts_asked, is_must_one, IsAboutMust}
+use Rattle.pl_bounds.specs.Settings.{musts_asked}
+use Rattle.pl_bounds.specs.Marks.{mark_of, Stands}
 use Rattle.pl_bounds.proofs.Having.{has_left, has_right}
-use Rattle.pl_bounds.proofs.Parts.{has_kept}
 use Rattle.pl_bounds.proofs.States.{asked_must}
 
 -- ---- a span has the moment
@@ -68,7 +69,7 @@ module _ (state : ℕ → ℕ) (moment horizon : ℕ) where
 
 -- ---- it stands
 
-made_has : {X : Type 0} (make : X → Conflict) (x : X) (xs : List X) → Has x xs → has (make x) (map make xs) ≡ true
+pub made_has : {X : Type 0} (make : X → Conflict) (x : X) (xs : List X) → Has x xs → has (make x) (map make xs) ≡ true
 made_has make x [] has = absurd has
 made_has make x (y ∷ xs) there = elim there [
   | inl e ↦ ap (λ z. has (make x) (make z ∷ map make xs)) e ∙ ap (λ b. b || has (make x) (map make xs)) (same_itself (make x))
@@ -88,24 +89,30 @@ in_lines s q n (suc i) (x ∷ ts) t e h =
     has-append (line_conflicts s (n, x)) (flat_map (line_conflicts s) (numbered (suc n) ts)) q ∙ (ap (λ b. has q (line_conflicts s (n, x)) || b) rest ∙ or-true (has q (line_conflicts s (n, x))))
 
 module _ (s : PlanState) (line : ℕ) where
+  pub of_line : (q : Conflict) (t : Timeline) → slice_get s.model.timelines line ≡ Some t → has q (line_conflicts s (line, t)) ≡ true → has q (timeline_conflicts s) ≡ true
+  of_line q t there h =
+      let first : line ≡ 0 + line = omega arith in
+      in_lines s q 0 line s.model.timelines t there (subst (λ (n : ℕ). has q (line_conflicts s (n, t)) ≡ true) first h)
+
   of_states : (q : Conflict) (o : Option Timeline) → slice_get s.model.timelines line ≡ o → IsStateLine o → has q (musts s line) ≡ true → has q (timeline_conflicts s) ≡ true
   unfolding line_conflicts
   of_states q (Some (States name states start any steps)) there is h =
-      let first : line ≡ 0 + line = omega arith in
-      in_lines s q 0 line s.model.timelines (States name states start any steps) there
-      (subst (λ (n : ℕ). has q (line_conflicts s (n, States name states start any steps)) ≡ true) first (has-append (musts s line) (bad_steps s line any steps) q ∙ ap (λ b. b || has q (bad_steps s line any steps)) h))
+      of_line q (States name states start any steps) there (has-append (musts s line) (bad_steps s line any steps) q ∙ ap (λ b. b || has q (bad_steps s line any steps)) h)
   of_states q _ there is h = absurd (is)
+
+  pub stands_all : (q : Conflict) → has q (timeline_conflicts s) ≡ true → has q (conflicts_of s) ≡ true
+  stands_all q there =
+      members s q ∙ (ap (λ v. has q (goal_conflicts s) || (has q (activity_conflicts s) || (has q (link_conflicts s) || v))) there
+      ∙ rw (or-true (has q (link_conflicts s)), or-true (has q (activity_conflicts s)), or-true (has q (goal_conflicts s))) refl)
 
   -- it tells that this must is not met
   pub must_stands : (m : Must) (p : ℕ) → IsStateLine (slice_get s.model.timelines line) → Has m (musts_asked line (demands_of s)) → m.from ≤ p → p < m.to → s.moment ≤ p → p < s.model.horizon → state_at s line p ≢ m.state
-      → (q : Conflict) × (has q (filter is_must_one (conflicts_of s)) ≡ true) × IsAboutMust q m
+      → Stands s (mark_of code.Must m.id m.index)
   must_stands m p is needed from to now upto other =
       let one = is_broken (state_at s line) s.moment s.model.horizon m p from to now upto other in
       let b : BrokenMust = one.0 in
       let q : Conflict = unmet_must s b in
       let told : has q (musts s line) ≡ true = made_has (unmet_must s) b (broken_all (state_at s line) s.moment s.model.horizon (musts_of line (demands_of s))) (all_has (state_at s line) s.moment s.model.horizon b m (musts_of line (demands_of s)) (asked_must line (demands_of s) m needed) one.1) in
       let there : has q (timeline_conflicts s) ≡ true = of_states q (slice_get s.model.timelines line) refl is told in
-      let stands : has q (conflicts_of s) ≡ true =
-      members s q ∙ (ap (λ v. has q (goal_conflicts s) || (has q (activity_conflicts s) || (has q (link_conflicts s) || v))) there
-      ∙ rw (or-true (has q (link_conflicts s)), or-true (has q (activity_conflicts s)), or-true (has q (goal_conflicts s))) refl) in
-      (q, has_kept is_must_one (conflicts_of s) q refl stands, (one.2, one.3))
+      let stands : has q (conflicts_of s) ≡ true = stands_all q there in
+      record { q = q; there = stands; states = refl; is = ap (λ (n : ℕ). mark_of code.Must n b.index) one.2 ∙ ap (λ (n : ℕ). mark_of code.Must m.id n) one.3 }

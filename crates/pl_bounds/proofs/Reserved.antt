@@ -16,7 +16,7 @@ use Rattle.pl_semantics.specs.declared.demand.Asked.TheVariants as asked
 use Rattle.pl_semantics.specs.PlanStates.{found, row_of, end_at, reservations_in, reservations_of, numbered, of_found}
 use Rattle.pl_semantics.specs.Links.{placed_of}
 use Rattle.pl_semantics.specs.Demands.{asked_of, must_in, demand_of, asked_for, demands_until, demands_at, demands_of}
-use Rattle.pl_bounds.specs.Unmet.{musts_asked}
+use Rattle.pl_bounds.specs.Settings.{musts_asked}
 use Rattle.pl_bounds.proofs.Having.{has_map, has_flat}
 
 found_has : (id : ℕ) (xs : List Activity) (a : Activity) → activity_of id xs ≡ Some a → Has a xs

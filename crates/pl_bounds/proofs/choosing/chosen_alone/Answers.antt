@@ -1,0 +1,1 @@
+use Rattle.pl_bounds.proofs.choosing.chosen_alone.Goals as goal
