@@ -1,5 +1,5 @@
 -- The choice of an alternative of a root that is alone in a plan: it can be made there as it can be made in the plan itself.
-use Rattle.std.proofs.Common.{◌≡◌, ℕ, suc, ◌+◌, ◌<◌, ◌≤◌, eqb, ltb, Bool, true, false, List, [], ◌∷◌, ◌++◌, map, length, Option, Some, None, refl, sym, ap, ◌∙◌, subst, arith}
+use Rattle.std.proofs.Common.{◌≡◌, ℕ, suc, ◌+◌, ◌<◌, ◌≤◌, eqb, ltb, Bool, true, false, cond, List, [], ◌∷◌, ◌++◌, map, length, Option, Some, None, refl, sym, ap, ◌∙◌, subst, arith}
 use Rattle.std.specs.Prelude.{◌&&◌, All, is_none, slice_get}
 use Rattle.std.proofs.lemmas.Bool.{eq-eqb}
 use Rattle.std.proofs.lemmas.List.Elements.{All-nil, All-cons}
@@ -127,4 +127,6 @@ module _ (s : PlanState) (whole : IsWhole s) (a : Activity) (here : found s a.id
 
   pub activities_alone : (chosen_alone s a alternative).plan.activities ≡ detailed alternative lone ∷ children_for s alternative (found s a.id)
   unfolding applied
-  activities_alone = rw (eq-eqb a.id a.id refl) (ap (λ (l : List Activity). detailed alternative lone ∷ l) children_for_same)
+  activities_alone =
+      ap (λ (b : Bool). (cond b (detailed alternative lone) lone ∷ []) ++ children_for alone alternative (found alone a.id)) (eq-eqb a.id a.id refl)
+      ∙ ap (λ (l : List Activity). detailed alternative lone ∷ l) children_for_same

@@ -20,13 +20,14 @@ use Rattle.pl_semantics.specs.declared.demand.Demand.{Demand}
 use Rattle.pl_semantics.specs.declared.plan_state.PlanState.{PlanState}
 use Rattle.pl_semantics.specs.Demands.{demands_at, demands_of}
 use Rattle.pl_semantics.specs.Moves.{alternatives_at, applied, child_for, children_from, children_in, children_for, detailed}
-use Rattle.pl_semantics.specs.PlanStates.{found, row_of}
+use Rattle.pl_semantics.specs.PlanStates.{among, found, row_of}
 use Rattle.pl_semantics.specs.Whole.{IsWhole}
 use Rattle.pl_update.specs.Changes.Replaced.{with_plan}
 use Rattle.pl_update.specs.Timelines.Laws.{gone_from, coming_to}
 use Rattle.pl_moves.specs.Changes.{gone_by, placed_by}
 use Rattle.pl_moves.specs.Runs.{CanBeMade}
 use Rattle.pl_moves.proofs.Made.{IsMadeBy, made}
+use Rattle.pl_moves.proofs.Swaps.{swapped_at}
 use Rattle.pl_bounds.specs.Askings.{without_goal}
 use Rattle.pl_bounds.specs.Choosing.{bare, chosen_alone}
 use Rattle.pl_bounds.specs.Exchanges.{IsExchange}
@@ -83,7 +84,10 @@ module _ (u : PlanState) (whole : IsWhole u) (next : u.next_id ≤ 3999999000) (
   rooted_then = whole_chosen.fits.rooted
 
   found_placed : (x : Activity) → activity_of x.id (chosen ∷ children) ≡ Some x → found then_ x.id ≡ Some x
-  found_placed x is = by.swap.found x.id ∙ ap (λ (o : Option Activity). option_or o _) (ap (λ (l : List Activity). activity_of x.id l) placed ∙ is)
+  found_placed x is =
+      by.swap.found x.id
+      ∙ (ap (λ (l : List Activity). swapped_at u.plan.activities (top.id ∷ []) l x.id) placed
+      ∙ ap (λ (o : Option Activity). option_or o (cond (among x.id (top.id ∷ [])) None (activity_of x.id u.plan.activities))) is)
 
   pub each_there : All (λ (x : Activity). found then_ x.id ≡ Some x) (chosen ∷ children)
   each_there k d lt = found_placed (get_or (chosen ∷ children) k d) (each_found (chosen ∷ children) (subst (λ (l : List Activity). AreRising l) placed by.swap.rises) k d lt)

@@ -58,3 +58,6 @@ pub mod Bare
 pub mod Marking
 pub mod Chosen
 pub mod Steps
+pub mod Comers
+pub mod Seeing
+pub mod Newcomers

@@ -34,7 +34,7 @@ pub marks_push : (s : PlanState) (ks : List Mark) (k : Mark) → (Has k ks → �
 marks_push s ks k new stands are = record {
   stand = λ m has. elim (has_either m ks (k ∷ []) has) [
     | inl more ↦ are.stand m more
-    | inr last ↦ elim last [ inl is ↦ subst (λ (n : Mark). Stands s n) (sym is) stands | inr none ↦ absurd none ]
+    | inr last ↦ elim last [ inl is ↦ subst (λ (n : Mark). Stands s n) is stands | inr none ↦ absurd none ]
   ];
   other = other_push ks k are.other new;
 }
@@ -45,7 +45,7 @@ none_yet s = record { stand = λ k has. absurd has; other = tt }
 pub new_more : (k : Mark) (ks : List Mark) (i : ℕ) (d : Mark) → i < length ks → (Has k (take i ks) → ⊥) → (get_or ks i d ≡ k → ⊥) → Has k (take (i + 1) ks) → ⊥
 new_more k ks i d lt before differs has = elim (has_either k (take i ks) (get_or ks i d ∷ []) (subst (λ (l : List Mark). Has k l) (take_more ks i d lt) has)) [
   | inl more ↦ before more
-  | inr last ↦ elim last [ inl is ↦ differs (sym is) | inr none ↦ absurd none ]
+  | inr last ↦ elim last [ inl is ↦ differs is | inr none ↦ absurd none ]
 ]
 
 -- ---- how many
@@ -70,7 +70,7 @@ told s (k ∷ ks) are =
           | inr more ↦ rest.1.stand q more
         ];
         from = λ q e. elim (or_cases (same q one.q) (has q rest.0) e) [
-          | inl here ↦ inl (ap (λ (z : Conflict). mark_of z.code z.subject z.detail) (same_is q one.q here) ∙ one.is)
+          | inl here ↦ inl (sym (ap (λ (z : Conflict). mark_of z.code z.subject z.detail) (same_is q one.q here) ∙ one.is))
           | inr more ↦ inr (rest.1.from q more)
         ];
         many = ap suc rest.1.many;

@@ -55,7 +55,7 @@ module _ (s : PlanState) (gone : List ℕ) (more : List Activity) (whole : IsWho
   abbrev t : PlanState
   t = with_plan gone more s
 
-  sets_before : (g : Setting → ℤ) → total g (sets_asked line (demands_of s)) ≡ (total g (sets_asked line (staying s gone)) +ℤ total g (sets_asked line (gone_from s gone)))
+  pub sets_before : (g : Setting → ℤ) → total g (sets_asked line (demands_of s)) ≡ (total g (sets_asked line (staying s gone)) +ℤ total g (sets_asked line (gone_from s gone)))
   sets_before g = omega (
     arith,
     ints,

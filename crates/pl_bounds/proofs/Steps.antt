@@ -11,7 +11,6 @@ use Rattle.pl_conflict.specs.Order.{has}
 use Rattle.pl_conflict.proofs.Sorting.{has-append}
 use Rattle.pl_state.specs.declared.reservation.Setting.{Setting}
 use Rattle.pl_state.specs.declared.answer.BadSet.{BadSet}
-use Rattle.pl_state.specs.declared.key.Key.{Key}
 use Rattle.pl_state.specs.Keys.{key_before, AreSorted, NoneBefore, Has}
 use Rattle.pl_state.specs.Sorted.{NoneHas, AreDistinct}
 use Rattle.pl_state.specs.Sets.{set_key, state_from, is_allowed, is_counted, bad_set, bad_from}
@@ -54,11 +53,11 @@ has_kept p z (y ∷ ys) has e = by (p y) refl has (has_kept p z ys)
     by false f h more = elim h [ inl is ↦ absurd (let bad : true ≡ false = sym e ∙ (ap p (sym is) ∙ f) in cc) | inr rest ↦ more rest e ]
 
 module _ (p : Setting → Bool) where
-  none_before_kept : (k : Key) (xs : List Setting) → NoneBefore set_key k xs → NoneBefore set_key k (filter p xs)
+  none_before_kept : (k : Setting) (xs : List Setting) → NoneBefore set_key (set_key k) xs → NoneBefore set_key (set_key k) (filter p xs)
   none_before_kept k [] none = tt
   none_before_kept k (y ∷ ys) none = by (p y) (none_before_kept k ys none.1)
     where
-      by : (b : Bool) → NoneBefore set_key k (filter p ys) → NoneBefore set_key k (cond b (y ∷ filter p ys) (filter p ys))
+      by : (b : Bool) → NoneBefore set_key (set_key k) (filter p ys) → NoneBefore set_key (set_key k) (cond b (y ∷ filter p ys) (filter p ys))
       by true rest = (none.0, rest)
       by false rest = rest
 
@@ -67,14 +66,14 @@ module _ (p : Setting → Bool) where
   sorted_kept (y ∷ ys) sorted = by (p y) (sorted_kept ys sorted.1)
     where
       by : (b : Bool) → AreSorted set_key (filter p ys) → AreSorted set_key (cond b (y ∷ filter p ys) (filter p ys))
-      by true rest = (none_before_kept (set_key y) ys sorted.0, rest)
+      by true rest = (none_before_kept y ys sorted.0, rest)
       by false rest = rest
 
-  none_has_kept : (k : Key) (xs : List Setting) → NoneHas set_key k xs → NoneHas set_key k (filter p xs)
+  none_has_kept : (k : Setting) (xs : List Setting) → NoneHas set_key (set_key k) xs → NoneHas set_key (set_key k) (filter p xs)
   none_has_kept k [] none = tt
   none_has_kept k (y ∷ ys) none = by (p y) (none_has_kept k ys none.1)
     where
-      by : (b : Bool) → NoneHas set_key k (filter p ys) → NoneHas set_key k (cond b (y ∷ filter p ys) (filter p ys))
+      by : (b : Bool) → NoneHas set_key (set_key k) (filter p ys) → NoneHas set_key (set_key k) (cond b (y ∷ filter p ys) (filter p ys))
       by true rest = (none.0, rest)
       by false rest = rest
 
@@ -83,7 +82,7 @@ module _ (p : Setting → Bool) where
   distinct_kept (y ∷ ys) distinct = by (p y) (distinct_kept ys distinct.1)
     where
       by : (b : Bool) → AreDistinct set_key (filter p ys) → AreDistinct set_key (cond b (y ∷ filter p ys) (filter p ys))
-      by true rest = (none_has_kept (set_key y) ys distinct.0, rest)
+      by true rest = (none_has_kept y ys distinct.0, rest)
       by false rest = rest
 
 none_kept : (x : Setting) (xs : List Setting) → NoneBefore set_key (set_key x) xs → filter (before x) xs ≡ []

@@ -38,3 +38,4 @@ pub mod Choosing
 pub mod Settings
 pub mod Exchanges
 pub mod Marks
+pub mod Seen

@@ -1,4 +1,4 @@
--- Conflicts of states that stand, each known by its code, its activity and the place of its reservation.
+-- Conflicts of states that stand, each known by its sort, its activity and the place of its reservation.
 use Rattle.std.specs.Prelude.{◌≡◌, ℕ, Bool, true, false, List, [], ◌∷◌, filter, length}
 use Rattle.pl_conflict.specs.declared.conflict.Conflict.{Conflict}
 use Rattle.pl_conflict.specs.declared.conflict.Code.{Code}
@@ -22,8 +22,12 @@ is_state_one q = is_of_states q.code
 abbrev pub count_of_states : PlanState → ℕ
 count_of_states s = length (filter is_state_one (conflicts_of s))
 
+abbrev pub is_step : Code → Bool
+is_step code.BadStep = true
+is_step _ = false
+
 abbrev pub mark_of : Code → ℕ → ℕ → Mark
-mark_of why subject detail = record { code = why; subject = subject; detail = detail }
+mark_of why subject detail = record { is_step = is_step why; subject = subject; detail = detail }
 
 -- a conflict that the mark tells of
 pub record Stands (s : PlanState) (k : Mark) : Type 0 where

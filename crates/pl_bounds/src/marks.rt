@@ -4,15 +4,26 @@ ghost use Rattle.pl_semantics.specs.declared.plan_state.PlanState.{PlanState};
 ghost use Rattle.pl_state.specs.Keys.{Has};
 ghost use Rattle.pl_bounds.specs.Marks.{AreMarks, Stands, count_of_states};
 
-use pl_conflict::Code;
 use std::alloc::AllocError;
 
-/// The code of a conflict, the activity that it tells of, and the place of the reservation.
-#[derive(Clone, Copy, PartialEq, Eq)]
+/// Whether a conflict tells of a step, or else of a needed state; the activity that it tells of; and the place of the reservation.
+#[derive(Clone, Copy)]
 pub(crate) struct Mark {
-    pub(crate) code: Code,
+    pub(crate) is_step: bool,
     pub(crate) subject: u32,
     pub(crate) detail: u32,
+}
+
+fn is_same(one: &Mark, other: &Mark) -> bool
+    ensures { result ≡ false → one.now ≡ other.now → ⊥ }
+{
+    if one.is_step != other.is_step {
+        return false;
+    }
+    if one.subject != other.subject {
+        return false;
+    }
+    one.detail == other.detail
 }
 
 // Whether it is none of these.
@@ -20,7 +31,7 @@ fn is_new(marks: &[Mark], mark: Mark) -> bool
     ensures { IsTrue result → Has mark marks.now → ⊥ }
 {
     for other in marks {
-        if *other == mark {
+        if is_same(other, &mark) {
             return false;
         }
     }
