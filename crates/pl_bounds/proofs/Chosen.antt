@@ -27,7 +27,6 @@ use Rattle.pl_update.specs.Timelines.Laws.{gone_from, coming_to}
 use Rattle.pl_moves.specs.Changes.{gone_by, placed_by}
 use Rattle.pl_moves.specs.Runs.{CanBeMade}
 use Rattle.pl_moves.proofs.Made.{IsMadeBy, made}
-use Rattle.pl_moves.proofs.Swaps.{swapped_at}
 use Rattle.pl_bounds.specs.Askings.{without_goal}
 use Rattle.pl_bounds.specs.Choosing.{bare, chosen_alone}
 use Rattle.pl_bounds.specs.Exchanges.{IsExchange}
@@ -49,6 +48,15 @@ pub record IsChildOf (id : ℕ) (x : Activity) : Type 0 where
   pub slot : ℕ
   pub up : x.parent ≡ Some (id, slot)
   pub bare : x.detail ≡ None
+
+children_new : (s : PlanState) (a : Activity) (n : ℕ) (slots : List Slot) (offsets : List ℕ) → All (λ (x : Activity). s.next_id ≤ x.id) (children_from s a n slots offsets)
+children_new s a n [] offsets = All-nil (λ (x : Activity). s.next_id ≤ x.id)
+children_new s a n (at ∷ slots) [] = All-nil (λ (x : Activity). s.next_id ≤ x.id)
+children_new s a n (at ∷ slots) (offset ∷ offsets) = All-cons (λ (x : Activity). s.next_id ≤ x.id) (child_for s a.id n (s.next_id + n) at (a.start + offset)) (children_from s a (suc n) slots offsets) (omega arith) (children_new s a (suc n) slots offsets)
+
+children_in_new : (s : PlanState) (a : Activity) (o : Option Alternative) → All (λ (x : Activity). s.next_id ≤ x.id) (children_in s a o)
+children_in_new s a None = All-nil (λ (x : Activity). s.next_id ≤ x.id)
+children_in_new s a (Some of) = children_new s a 0 of.slots of.offsets
 
 children_up : (s : PlanState) (a : Activity) (n : ℕ) (slots : List Slot) (offsets : List ℕ) → All (IsChildOf a.id) (children_from s a n slots offsets)
 children_up s a n [] offsets = All-nil (IsChildOf a.id)
@@ -74,7 +82,7 @@ module _ (u : PlanState) (whole : IsWhole u) (next : u.next_id ≤ 3999999000) (
   by : IsMadeBy u (Detail top.id alternative)
   by = made u whole (Detail top.id alternative) tt can.proper can.allowed
 
-  placed : placed_by u (Detail top.id alternative) ≡ chosen ∷ children
+  pub placed : placed_by u (Detail top.id alternative) ≡ chosen ∷ children
   placed = rw here refl
 
   whole_chosen : IsWhole then_
@@ -86,7 +94,7 @@ module _ (u : PlanState) (whole : IsWhole u) (next : u.next_id ≤ 3999999000) (
   found_placed : (x : Activity) → activity_of x.id (chosen ∷ children) ≡ Some x → found then_ x.id ≡ Some x
   found_placed x is =
       by.swap.found x.id
-      ∙ (ap (λ (l : List Activity). swapped_at u.plan.activities (top.id ∷ []) l x.id) placed
+      ∙ (ap (λ (l : List Activity). option_or (activity_of x.id l) (cond (among x.id (top.id ∷ [])) None (activity_of x.id u.plan.activities))) placed
       ∙ ap (λ (o : Option Activity). option_or o (cond (among x.id (top.id ∷ [])) None (activity_of x.id u.plan.activities))) is)
 
   pub each_there : All (λ (x : Activity). found then_ x.id ≡ Some x) (chosen ∷ children)
@@ -138,7 +146,7 @@ module _ (s : PlanState) (whole : IsWhole s) (next : s.next_id ≤ 3999999000) (
   can_lone : CanBeMade (bare s a) (Detail lone.id alternative)
   can_lone = can_bare s whole a here root alternative can
 
-  abbrev mine : List Activity
+  abbrev pub mine : List Activity
   mine = children_for s alternative (Some a)
 
   mine_same : children_for (bare s a) alternative (Some lone) ≡ mine
@@ -150,11 +158,15 @@ module _ (s : PlanState) (whole : IsWhole s) (next : s.next_id ≤ 3999999000) (
   each_alone : All (λ (x : Activity). found then_alone x.id ≡ Some x) (detailed alternative lone ∷ mine)
   each_alone = subst (λ (l : List Activity). All (λ (x : Activity). found then_alone x.id ≡ Some x) (detailed alternative lone ∷ l)) mine_same (each_there (bare s a) whole_lone next lone here_lone root alternative can_lone)
 
-  each_here : All (λ (x : Activity). found then_there x.id ≡ Some x) (detailed alternative a ∷ mine)
+  pub each_here : All (λ (x : Activity). found then_there x.id ≡ Some x) (detailed alternative a ∷ mine)
   each_here = each_there s whole next a here root alternative can
 
-  up : All (IsChildOf a.id) mine
+  pub up : All (IsChildOf a.id) mine
   up = children_in_up s a (slice_get (alternatives_at s a) alternative)
+
+  -- each has an id that was not given before
+  pub are_new : All (λ (x : Activity). s.next_id ≤ x.id) mine
+  are_new = children_in_new s a (slice_get (alternatives_at s a) alternative)
 
   child_same : All (λ (x : Activity). demands_at then_alone x ≡ demands_at then_there x) mine
   child_same k d lt =
@@ -181,3 +193,6 @@ module _ (s : PlanState) (whole : IsWhole s) (next : s.next_id ≤ 3999999000) (
     goes = goes;
     comes = comes ∙ (comes_same ∙ ap (λ (t : PlanState). coming_to t (placed_by s (Detail a.id alternative))) (sym (placed_is s (Detail a.id alternative) whole next can tt)));
   }
+
+  pub whole_alone : IsWhole then_alone
+  whole_alone = whole_then (bare s a) whole_lone next (Detail lone.id alternative) tt can_lone

@@ -60,4 +60,6 @@ pub mod Chosen
 pub mod Steps
 pub mod Comers
 pub mod Seeing
-pub mod Newcomers
+pub mod Arriving
+pub mod Detailed
+pub mod Unlinked

@@ -138,13 +138,13 @@ module _ (s : PlanState) (line : ℕ) where
   pub step_stands : (any : Bool) (steps : List (ℕ × ℕ)) (x : Setting) (o : Option Timeline) → slice_get s.model.timelines line ≡ o → HasSteps any steps o → AreSorted set_key (sets_of line (demands_of s)) → AreDistinct set_key (sets_of line (demands_of s))
       → Has x (sets_of line (demands_of s)) → since s line < x.at → x.at < s.model.horizon → s.moment ≤ x.at → is_allowed any steps (entering x) x.state ≡ false → Stands s (mark_of code.BadStep x.id x.index)
   unfolding line_conflicts
-  step_stands any steps x (Some (States name states start any' steps')) there (same_any, same_steps) sorted distinct has since_lt horizon_lt now_le bad =
+  step_stands any steps x (Some (States name states start any' steps')) there (same_any, same_steps) sorted distinct held since_lt horizon_lt now_le bad =
       let counted : is_counted (since s line) s.model.horizon x ≡ true = rw (lt-ltb (since s line) x.at since_lt, lt-ltb x.at s.model.horizon horizon_lt) refl in
       let here : Has (bad_set x) (bad_from (is_allowed any steps) (since s line) s.model.horizon s.moment (natural (told s line)) (sets_of line (demands_of s))) =
-      has_bad (is_allowed any steps) (since s line) s.model.horizon s.moment x counted (le-leb s.moment x.at now_le) (natural (told s line)) (sets_of line (demands_of s)) sorted distinct has bad in
+      has_bad (is_allowed any steps) (since s line) s.model.horizon s.moment x counted (le-leb s.moment x.at now_le) (natural (told s line)) (sets_of line (demands_of s)) sorted distinct held bad in
       let q : Conflict = bad_step s (bad_set x) in
       let among : has q (bad_steps s line any' steps') ≡ true =
       subst (λ (b : Bool). has q (bad_steps s line b steps') ≡ true) (sym same_any) (subst (λ (l : List (ℕ × ℕ)). has q (bad_steps s line any l) ≡ true) (sym same_steps) (made_has (bad_step s) (bad_set x) _ here)) in
       let all : has q (line_conflicts s (line, States name states start any' steps')) ≡ true = has-append (musts s line) (bad_steps s line any' steps') q ∙ (ap (λ b. has q (musts s line) || b) among ∙ or-true (has q (musts s line))) in
       record { q = q; there = stands_all s line q (of_line s line q (States name states start any' steps') there all); states = refl; is = refl }
-  step_stands any steps x _ there has_steps sorted distinct has since_lt horizon_lt now_le bad = absurd (has_steps)
+  step_stands any steps x _ there has_steps sorted distinct held since_lt horizon_lt now_le bad = absurd (has_steps)

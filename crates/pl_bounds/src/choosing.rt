@@ -1,12 +1,10 @@
 //! The choice of an alternative of a root: what it places, and what that asks of timelines.
 ghost use Rattle.std.specs.Prelude.{◌≡◌, ◌≤◌, ◌∷◌, [], false, None, Some, IfOk};
 ghost use Rattle.pl_moves.specs.Runs.{CanBeMade};
-ghost use Rattle.pl_moves.specs.Changes.{placed_by};
 ghost use Rattle.pl_plan.specs.Activities.{activity_of};
 ghost use Rattle.pl_plan.specs.declared.repair.RepairMove.TheVariants.{Detail};
 ghost use Rattle.pl_semantics.specs.Whole.{IsWhole};
-ghost use Rattle.pl_bounds.specs.Choosing.{bare, chosen_alone};
-ghost use Rattle.pl_bounds.specs.Exchanges.{IsExchange};
+ghost use Rattle.pl_bounds.specs.Choosing.{IsAskedByChoice, bare, chosen_alone};
 
 use crate::asking::{Asking, asked_by};
 use pl_board::Board;
@@ -85,8 +83,7 @@ pub(crate) fn asked_by_choice(
     requires root { root.now.parent ≡ None }
     requires allowed { CanBeMade board.now.state (Detail root.now.id alternative) }
     requires alone { alone.now ≡ chosen_alone board.now.state root.now alternative }
-    ensures asked { IfOk result (λ a. IsExchange board.now.state (root.now.id ∷ []) (placed_by board.now.state (Detail root.now.id alternative)) a.going.items a.coming.items) }
-    ensures start { IfOk result (λ a. a.start ≡ 0) }
+    ensures { IfOk result (λ a. IsAskedByChoice board.now.state root.now.id alternative a) }
 {
     let _state = board.state();
     let going = asked_by(alloc, board, &[root.id])?;

@@ -26,16 +26,22 @@ fn is_unmet_at(board: &Board, asking: &Asking, line: u32, must: &Must, at: u32) 
     ensures { IsTrue result → StandsThen board.now.state asking.now (mark_of code.Must must.now.id must.now.index) }
 {
     let _state = board.state();
-    match seen_at(board, line, at) {
-        Some(seen) => {
-            must.from <= at
-                && at < must.to
-                && seen.state != must.state
-                && hangs_on_none(board, asking.going.as_slice(), &seen)
-                && hangs_on_none(board, asking.coming.as_slice(), &seen)
-        }
-        None => false,
+    let Some(seen) = seen_at(board, line, at) else {
+        return false;
+    };
+    if at < must.from {
+        return false;
     }
+    if must.to <= at {
+        return false;
+    }
+    if seen.state == must.state {
+        return false;
+    }
+    if !hangs_on_none(board, asking.going.as_slice(), &seen) {
+        return false;
+    }
+    hangs_on_none(board, asking.coming.as_slice(), &seen)
 }
 
 // The same at the last moment of its time, at the first, or in the middle.
@@ -115,16 +121,22 @@ fn is_bad_step(board: &Board, asking: &Asking, line: u32, set: &Setting) -> bool
     ensures { IsTrue result → StandsThen board.now.state asking.now (mark_of code.BadStep set.now.id set.now.index) }
 {
     let _state = board.state();
-    match seen_at(board, line, set.at) {
-        Some(seen) => {
-            board.next_id() <= set.id
-                && board.now() < set.at
-                && is_forbidden(board.model(), line, seen.state, set.state)
-                && hangs_on_none(board, asking.going.as_slice(), &seen)
-                && hangs_on_none_before(board, asking.coming.as_slice(), &seen, set)
-        }
-        None => false,
+    if set.id < board.next_id() {
+        return false;
     }
+    if set.at <= board.now() {
+        return false;
+    }
+    let Some(seen) = seen_at(board, line, set.at) else {
+        return false;
+    };
+    if !is_forbidden(board.model(), line, seen.state, set.state) {
+        return false;
+    }
+    if !hangs_on_none(board, asking.going.as_slice(), &seen) {
+        return false;
+    }
+    hangs_on_none_before(board, asking.coming.as_slice(), &seen, set)
 }
 
 fn mark_step(

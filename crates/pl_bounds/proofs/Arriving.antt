@@ -17,6 +17,7 @@ use Rattle.pl_semantics.specs.declared.demand.Demand.{Demand}
 use Rattle.pl_semantics.specs.Demands.{demands_of, sets_of, moment_of_base, since, state_at}
 use Rattle.pl_semantics.specs.Whole.{IsWhole, IsBase}
 use Rattle.pl_update.specs.Changes.Replaced.{with_plan}
+use Rattle.pl_update.specs.Timelines.Laws.{coming_to, gone_from}
 use Rattle.pl_update.proofs.AboutTimelines.StandingApart.{sets_sorted}
 use Rattle.pl_update.proofs.AboutTimelines.Replacing.{whole_after}
 use Rattle.pl_bounds.specs.Exchanges.{IsExchange}
@@ -58,9 +59,9 @@ module _ (s : PlanState) (gone : List ℕ) (more : List Activity) (whole : IsWho
   -- a step that is taken there
   pub bad_step_then : (x : Setting) → Has x (sets_asked u.line coming) → s.next_id ≤ x.id → u.at ≡ x.at → s.moment < x.at → DoesNotAllow (slice_get s.model.timelines u.line) u.state x.state → EachSet u.line (IsOtherBefore s u x) coming → Stands t (mark_of code.BadStep x.id x.index)
   bad_step_then x asked newest at later forbids comes =
-      let new : Has x (sets_asked u.line _) = subst (λ (ds : List Demand). Has x (sets_asked u.line ds)) exchange.comes asked in
-      let hangs : HangsOnNone s u.line x.at _ = subst (λ (n : ℕ). HangsOnNone s u.line n _) at (subst (λ (ds : List Demand). HangsOnNone s u.line u.at ds) exchange.goes goes) in
-      let others = subst (λ (ds : List Demand). EachSet u.line (IsOtherBefore s u x) ds) exchange.comes comes in
+      let new : Has x (sets_asked u.line (coming_to t more)) = subst (λ (ds : List Demand). Has x (sets_asked u.line ds)) exchange.comes asked in
+      let hangs : HangsOnNone s u.line x.at (gone_from s gone) = subst (λ (n : ℕ). HangsOnNone s u.line n (gone_from s gone)) at (subst (λ (ds : List Demand). HangsOnNone s u.line u.at ds) exchange.goes goes) in
+      let others : EachSet u.line (IsOtherBefore s u x) (coming_to t more) = subst (λ (ds : List Demand). EachSet u.line (IsOtherBefore s u x) ds) exchange.comes comes in
       let from : entering t u.line x ≡ u.state =
       entering_is s gone more whole exchange.can exchange.once u.line x new newest hangs (λ z has first e. others z has first (e ∙ ap (state_at s u.line) (sym at))) ∙ (ap (state_at s u.line) (sym at) ∙ seen.is) in
       let told : since s u.line ≤ s.moment = since_now s whole u.line seen.line in

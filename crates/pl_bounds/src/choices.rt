@@ -1,0 +1,88 @@
+//! How many conflicts the choice of an alternative of a root leaves at least.
+ghost use Rattle.std.specs.Prelude.{◌≡◌, ◌≤◌, ◌+◌, false, All, None, Some, IfOk, OnOk};
+ghost use Rattle.pl_moves.specs.Runs.{CanBeMade};
+ghost use Rattle.pl_plan.specs.Activities.{activity_of};
+ghost use Rattle.pl_plan.specs.declared.repair.RepairMove.TheVariants.{Detail};
+ghost use Rattle.pl_semantics.specs.Legal.{left_after};
+ghost use Rattle.pl_semantics.specs.Moves.{applied};
+ghost use Rattle.pl_bounds.specs.Choosing.{IsAskedByChoice};
+ghost use Rattle.pl_bounds.specs.Plain.{count_of_plain};
+ghost use Rattle.pl_bounds.specs.Sides.{IsOutsideOf, AreDifferent};
+ghost use Rattle.pl_bounds.specs.Standing.{IsStandingOf};
+ghost use Rattle.pl_bounds.specs.Ties.{count_of_links};
+
+use crate::asking::Asking;
+use crate::bounding::past_after;
+use crate::choosing::{asked_by_choice, chosen_alone};
+use crate::ending::look_at_ends;
+use crate::remainder::{left_alone_by_choice, left_by_choice};
+use crate::marks::count_of_marks;
+use crate::newcomers::newcomers;
+use crate::outside::Outside;
+use crate::sorting::parts_of;
+use crate::standing::Standing;
+use crate::worsening::widen;
+use pl_board::Board;
+use pl_plan::Activity;
+use std::alloc::{AllocError, Global};
+
+// Beside the conflicts of goals, of activities and of links that the choice leaves, so many at least: how often timelines are past their
+// limits, and what is wrong with states that it needs and sets.
+fn others_by_choice(
+    alloc: Global,
+    board: &Board,
+    asking: &Asking,
+    root: &Activity,
+    alternative: u32,
+    past: &mut Vec<Outside>,
+) -> Result<u32, AllocError>
+    requires unspoiled { board.now.spoiled ≡ false }
+    requires next { board.now.state.next_id ≤ 3999999000 }
+    requires of_plan { All (IsOutsideOf board.now.state) past.old.items }
+    requires different { AreDifferent past.old.items }
+    requires allowed { CanBeMade board.now.state (Detail root.now.id alternative) }
+    requires asked { IsAskedByChoice board.now.state root.now.id alternative asking.now }
+    ensures of_plan { OnOk result (All (IsOutsideOf board.now.state) past.new.items) }
+    ensures different { OnOk result (AreDifferent past.new.items) }
+    ensures least { IfOk result (λ n. count_of_plain (applied board.now.state (Detail root.now.id alternative)) + count_of_links (applied board.now.state (Detail root.now.id alternative)) + n
+        ≤ left_after board.now.state (Detail root.now.id alternative)) }
+{
+    let _state = board.state();
+    widen(alloc, board, asking.coming.as_slice(), past)?;
+    look_at_ends(alloc, board, asking.coming.as_slice(), past)?;
+    let parts = parts_of(alloc, past.as_slice(), asking)?;
+    let times = past_after(board, past.as_slice(), asking, parts.as_slice(), 0);
+    let marks = newcomers(alloc, board, asking)?;
+    let states = count_of_marks(marks.as_slice());
+    Ok(states.saturating_add(times))
+}
+
+/// A number of conflicts that the choice leaves at least. Limits that it may pass are put behind those that are looked at.
+pub(crate) fn least_of_choice(
+    alloc: Global,
+    board: &Board,
+    standing: &Standing,
+    root: &Activity,
+    alternative: u32,
+    past: &mut Vec<Outside>,
+) -> Result<u32, AllocError>
+    requires unspoiled { board.now.spoiled ≡ false }
+    requires next { board.now.state.next_id ≤ 3999999000 }
+    requires standing { IsStandingOf board.now.state standing.now }
+    requires of_plan { All (IsOutsideOf board.now.state) past.old.items }
+    requires different { AreDifferent past.old.items }
+    requires live { activity_of root.now.id board.now.state.plan.activities ≡ Some root.now }
+    requires root { root.now.parent ≡ None }
+    requires allowed { CanBeMade board.now.state (Detail root.now.id alternative) }
+    ensures of_plan { OnOk result (All (IsOutsideOf board.now.state) past.new.items) }
+    ensures different { OnOk result (AreDifferent past.new.items) }
+    ensures least { IfOk result (λ n. n ≤ left_after board.now.state (Detail root.now.id alternative)) }
+{
+    let alone = chosen_alone(alloc, board.state(), root, alternative)?;
+    let placed = alone.plan.activities();
+    let plain = left_by_choice(alloc, board, root, alternative, placed)?;
+    let links = left_alone_by_choice(alloc, board, standing, root, alternative, placed)?;
+    let asking = asked_by_choice(alloc, board, root, alternative, &alone)?;
+    let others = others_by_choice(alloc, board, &asking, root, alternative, past)?;
+    Ok(plain.saturating_add(links).saturating_add(others))
+}
