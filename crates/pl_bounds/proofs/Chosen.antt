@@ -3,7 +3,6 @@ use Rattle.std.proofs.Common.{◌≡◌, ℕ, suc, ◌+◌, ◌≤◌, eqb, Bool
 use Rattle.std.specs.Prelude.{All, get_or, slice_get, map, length}
 use Rattle.std.specs.List.{flat_map}
 use Rattle.std.specs.Option.{option_or}
-use Rattle.std.proofs.lemmas.Bool.{eq-eqb}
 use Rattle.std.proofs.lemmas.List.Elements.{All-nil, All-cons, All-head, All-tail}
 use Rattle.pl_model.specs.Checked.{params_of}
 use Rattle.pl_model.specs.declared.alternatives.Slot.{Slot}
@@ -11,9 +10,9 @@ use Rattle.pl_model.specs.declared.alternatives.Alternative.{Alternative}
 use Rattle.pl_plan.specs.declared.activity.Activity.{Activity}
 use Rattle.pl_plan.specs.declared.repair.RepairMove.TheVariants.{Detail}
 use Rattle.pl_plan.specs.Activities.{activity_of, AreRising}
-use Rattle.pl_plan.specs.Fitting.{kind_of}
+use Rattle.pl_plan.specs.Fitting.{chosen_slots, kind_of}
 use Rattle.pl_plan.specs.Trees.{IsRooted}
-use Rattle.pl_plan.specs.Values.{Row, settled, bindings_at, values_of}
+use Rattle.pl_plan.specs.Values.{Row, settled, bindings_at, bindings_in, values_of}
 use Rattle.pl_plan.proofs.Kept.{each_found}
 use Rattle.pl_plan.proofs.ValueSteps.{values_at_root, values_at_child, settled_same}
 use Rattle.pl_semantics.specs.declared.demand.Demand.{Demand}
@@ -111,19 +110,18 @@ module _ (u : PlanState) (whole : IsWhole u) (next : u.next_id ≤ 3999999000) (
 
   -- what the chosen one asks for
   chosen_asks : demands_at then_ chosen ≡ asks u.model chosen row
+  unfolding applied
   chosen_asks = asks_found then_ chosen chosen_there ∙ ap (asks u.model chosen) row_then
 
   abbrev child_row : Activity → ℕ → Row
-  child_row x slot = settled (params_of (kind_of u.model x)) x.set (bindings_at u.model (chosen ∷ []) (Some (top.id, slot))) row
+  child_row x slot = settled (params_of (kind_of u.model x)) x.set (bindings_in (slice_get (chosen_slots u.model chosen) slot)) row
 
   child_asks : (x : Activity) → found then_ x.id ≡ Some x → (of : IsChildOf top.id x) → demands_at then_ x ≡ asks u.model x (child_row x of.slot)
+  unfolding applied
   child_asks x there of = asks_found then_ x there ∙ ap (asks u.model x) (values_at_child u.model then_.plan.activities rooted_then x.id x there (top.id, of.slot) of.up ∙ settled_same _ _ _ _ _ _ _ _ refl refl bindings row_then)
     where
-      itself : activity_of top.id (chosen ∷ []) ≡ Some chosen
-      itself = rw (eq-eqb top.id top.id refl) refl
-
-      bindings : bindings_at u.model then_.plan.activities (Some (top.id, of.slot)) ≡ bindings_at u.model (chosen ∷ []) (Some (top.id, of.slot))
-      bindings = rw (chosen_there, itself) refl
+      bindings : bindings_at u.model then_.plan.activities (Some (top.id, of.slot)) ≡ bindings_in (slice_get (chosen_slots u.model chosen) of.slot)
+      bindings = rw chosen_there refl
 
 -- ---- the same alone
 

@@ -1,5 +1,5 @@
 -- The choice of an alternative leaves what is wrong with goals and other activities, and children that lack an alternative of their own.
-use Rattle.std.proofs.Common.{◌≡◌, ℕ, suc, ◌+◌, ◌<◌, ◌≤◌, eqb, Bool, true, false, cond, List, [], ◌∷◌, ◌++◌, map, filter, length, Option, Some, None, refl, sym, ap, ◌∙◌, subst, arith}
+use Rattle.std.proofs.Common.{◌≡◌, ℕ, zero, suc, ◌+◌, ◌<◌, ◌≤◌, eqb, Bool, true, false, cond, List, [], ◌∷◌, ◌++◌, map, filter, length, Option, Some, None, refl, sym, ap, ◌∙◌, subst, arith}
 use Rattle.std.specs.Prelude.{◌||◌, ◌&&◌, not, All, get_or}
 use Rattle.std.specs.List.{flat_map, filter_map}
 use Rattle.std.specs.Option.{option_to_list}
@@ -122,6 +122,7 @@ module _ (s : PlanState) (whole : IsWhole s) (next : s.next_id ≤ 3999999000) (
     among_ids : among x.id ids ≡ true
 
   lack_stands : (x : Activity) → IsNew x → lacks s x ≡ true → has (lack x) (conflicts_of t) ≡ true
+  unfolding applied
   lack_stands x new some =
       let none : eqb (length (alternatives_of (kind_of s.model x))) 0 ≡ false = not-true (eqb (length (alternatives_of (kind_of s.model x))) 0) some in
       let one : undetailed_at t x ≡ lack x ∷ [] = rw (new.bare, none) refl in
@@ -173,10 +174,11 @@ module _ (s : PlanState) (whole : IsWhole s) (next : s.next_id ≤ 3999999000) (
     where
       inside : (ys : List Activity) (k : ℕ) (d : Activity) → k < length ys → among (get_or ys k d).id (map id_of ys) ≡ true
       inside [] k d lt = absurd (omega (arith, lt))
-      inside (y ∷ ys) 0 d lt = or_left (eqb y.id y.id) (among y.id (map id_of ys)) (eq-eqb y.id y.id refl)
+      inside (y ∷ ys) zero d lt = or_left (eqb y.id y.id) (among y.id (map id_of ys)) (eq-eqb y.id y.id refl)
       inside (y ∷ ys) (suc k) d lt = or_right (eqb y.id (get_or ys k d).id) (among (get_or ys k d).id (map id_of ys)) (inside ys k d (omega (arith, lt)))
 
   all_new : All IsNew children
+  unfolding applied
   all_new k d lt =
       let low = above k d lt in
       record {

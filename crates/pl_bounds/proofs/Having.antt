@@ -31,6 +31,9 @@ module _ {T : Type 0} where
   has_place (y ∷ xs) zero d lt = inl refl
   has_place (y ∷ xs) (suc i) d lt = inr (has_place xs i d (omega (arith, lt)))
 
+pub has_same : {T : Type 0} (xs ys : List T) → xs ≡ ys → (i : ℕ) (d : T) → i < length xs → Has (get_or xs i d) ys
+has_same {T} xs ys is i d lt = subst (λ (l : List T). Has (get_or xs i d) l) is (has_place xs i d lt)
+
 module _ {S T : Type 0} where
   pub has_map : (f : S → T) (x : S) (xs : List S) → Has x xs → Has (f x) (map f xs)
   has_map f x [] has = absurd has

@@ -1,5 +1,3 @@
-use Rattle.std.proofs.Common.{sym, subst}
-use Rattle.pl_semantics.specs.declared.plan_state.PlanState.{PlanState}
 use Rattle.pl_semantics.specs.Whole.{IsWhole}
 use Rattle.pl_update.proofs.AboutChanges.Putting.{puttable}
 use Rattle.pl_bounds.proofs.Bare.{can_bare, whole_bare}
@@ -17,5 +15,5 @@ trial_of-requires-clause-allowed c = rw c.in_ok-alone.ensures (can_bare c.args.s
 pub replace-requires-clause-can : goal.replace-requires-clause-can
 replace-requires-clause-can c =
     let can = c.in_ok-trial.ensures.undone.can in
-    let whole : IsWhole c.in_ok-alone.alone = trial_of-requires-clause-whole c in
+    let whole : IsWhole c.in_ok-alone.alone = rw c.in_ok-alone.ensures (whole_bare c.args.s.now c.requires.whole c.args.root.now c.requires.live c.requires.root c.args.alternative c.requires.allowed) in
     rw (c.as_slice.ensures.value, c.as_slice-placed.ensures.value) (puttable c.in_ok-alone.alone.plan.activities c.in_ok-trial.trial.change.gone.items c.in_ok-trial.trial.change.placed.items whole.rising can.once can.free)
