@@ -63,3 +63,4 @@ pub mod Seeing
 pub mod Arriving
 pub mod Detailed
 pub mod Unlinked
+pub mod Exchanged

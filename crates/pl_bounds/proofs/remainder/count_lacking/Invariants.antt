@@ -1,7 +1,7 @@
-use Rattle.std.proofs.Common.{◌+◌, ◌≤◌, filter, length}
-use Rattle.pl_bounds.specs.Standing.{is_elsewhere}
+-- what was counted and what the rest may be
+use Rattle.std.proofs.Common.{◌+◌, ◌≤◌, drop, filter, length}
+use Rattle.pl_bounds.specs.Choosing.{lacks}
 use Rattle.pl_bounds.proofs.remainder.count_lacking.Given as goal
 
--- with those among the others they are no more than all
-abbrev pub invariant-loop-conflict : goal.invariant-loop-conflict
-invariant-loop-conflict l = l.count + length (filter (is_elsewhere l.ids) l.conflict-iterator) ≤ length (filter (is_elsewhere l.ids) l.conflicts)
+abbrev pub invariant-loop-child : goal.invariant-loop-child
+invariant-loop-child l = (l.count + length (filter (lacks l.s) (drop l.child-index l.children))) ≤ length (filter (lacks l.s) l.children)
