@@ -64,3 +64,4 @@ pub mod Arriving
 pub mod Detailed
 pub mod Unlinked
 pub mod Exchanged
+pub mod Remainders

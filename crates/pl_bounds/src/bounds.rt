@@ -1,7 +1,5 @@
 //! For each of some moves a number of conflicts that it leaves at least.
-ghost use Rattle.std.specs.Prelude.{◌≡◌, ◌≤◌, ◌+◌, false, All, Some, IfOk, OnOk};
-ghost use Rattle.pl_plan.specs.Activities.{activity_of};
-ghost use Rattle.pl_plan.specs.declared.repair.RepairMove.TheVariants.{Detail};
+ghost use Rattle.std.specs.Prelude.{◌≡◌, ◌≤◌, ◌+◌, false, All, IfOk, OnOk};
 ghost use Rattle.pl_semantics.specs.Moves.{applied};
 ghost use Rattle.pl_semantics.specs.Legal.{left_after};
 ghost use Rattle.pl_semantics.specs.declared.plan_state.PlanState.{PlanState};
@@ -16,7 +14,6 @@ ghost use Rattle.pl_bounds.specs.Standing.{IsStandingOf};
 ghost use Rattle.pl_bounds.specs.Ties.{count_of_links};
 
 use crate::bounding::past_after;
-use crate::choices::least_of_choice;
 use crate::orders::unmet_then;
 use crate::outside::{Outside, outsides};
 use crate::runs::{Run, run_like, run_of};
@@ -25,7 +22,7 @@ use crate::ties::lone_then;
 use pl_board::Board;
 use pl_conflict::ConflictSet;
 use pl_moves::{least_left, start_of};
-use pl_plan::{Activity, RepairMove};
+use pl_plan::RepairMove;
 use std::alloc::{AllocError, Global};
 
 // With more conflicts than this for each move none of them is looked at.
@@ -109,60 +106,9 @@ fn least_alone(alloc: Global, board: &Board, moves: &[RepairMove]) -> Result<Vec
     Ok(bounds)
 }
 
-// The same of the choice of an alternative, if it is one of a root.
-fn bound_of_root(
-    alloc: Global,
-    board: &Board,
-    standing: &Standing,
-    past: &mut Vec<Outside>,
-    root: &Activity,
-    alternative: u32,
-) -> Result<u32, AllocError>
-    requires unspoiled { board.now.spoiled ≡ false }
-    requires next { board.now.state.next_id ≤ 3999999000 }
-    requires standing { IsStandingOf board.now.state standing.now }
-    requires of_plan { All (IsOutsideOf board.now.state) past.old.items }
-    requires different { AreDifferent past.old.items }
-    requires live { activity_of root.now.id board.now.state.plan.activities ≡ Some root.now }
-    requires allowed { CanBeMade board.now.state (Detail root.now.id alternative) }
-    ensures least { IfOk result (λ n. n ≤ left_after board.now.state (Detail root.now.id alternative)) }
-    ensures of_plan { OnOk result (All (IsOutsideOf board.now.state) past.new.items) }
-    ensures different { OnOk result (AreDifferent past.new.items) }
-{
-    if root.parent.is_some() {
-        return Ok(0);
-    }
-    least_of_choice(alloc, board, standing, root, alternative, past)
-}
-
-// The same of the choice of an alternative of the activity of this id.
-fn bound_of_choice(
-    alloc: Global,
-    board: &Board,
-    standing: &Standing,
-    past: &mut Vec<Outside>,
-    id: u32,
-    alternative: u32,
-) -> Result<u32, AllocError>
-    requires unspoiled { board.now.spoiled ≡ false }
-    requires next { board.now.state.next_id ≤ 3999999000 }
-    requires standing { IsStandingOf board.now.state standing.now }
-    requires of_plan { All (IsOutsideOf board.now.state) past.old.items }
-    requires different { AreDifferent past.old.items }
-    requires allowed { CanBeMade board.now.state (Detail id alternative) }
-    ensures least { IfOk result (λ n. n ≤ left_after board.now.state (Detail id alternative)) }
-    ensures of_plan { OnOk result (All (IsOutsideOf board.now.state) past.new.items) }
-    ensures different { OnOk result (AreDifferent past.new.items) }
-{
-    match board.state().live(id) {
-        Some(root) => bound_of_root(alloc, board, standing, past, root, alternative),
-        None => Ok(0),
-    }
-}
-
 // A number of conflicts that a move leaves at least. If no move before it places the same activities, what is known of it is put behind the
 // others.
-fn bound_by_run(
+fn bound_of(
     alloc: Global,
     board: &Board,
     standing: &Standing,
@@ -189,35 +135,6 @@ fn bound_by_run(
     let bound = least_by(board, past.as_slice(), &run, mv);
     runs.push(run)?;
     Ok(bound)
-}
-
-// A number of conflicts that a move leaves at least.
-fn bound_of(
-    alloc: Global,
-    board: &Board,
-    standing: &Standing,
-    past: &mut Vec<Outside>,
-    mv: &RepairMove,
-    runs: &mut Vec<Run>,
-) -> Result<u32, AllocError>
-    requires unspoiled { board.now.spoiled ≡ false }
-    requires next { board.now.state.next_id ≤ 3999999000 }
-    requires standing { IsStandingOf board.now.state standing.now }
-    requires of_plan { All (IsOutsideOf board.now.state) past.old.items }
-    requires different { AreDifferent past.old.items }
-    requires allowed { CanBeMade board.now.state mv.now }
-    requires runs { All (IsRunOf board.now.state) runs.old.items }
-    ensures least { IfOk result (λ n. n ≤ left_after board.now.state mv.now) }
-    ensures of_plan { OnOk result (All (IsOutsideOf board.now.state) past.new.items) }
-    ensures different { OnOk result (AreDifferent past.new.items) }
-    ensures runs { OnOk result (All (IsRunOf board.now.state) runs.new.items) }
-{
-    match *mv {
-        RepairMove::Detail { id, alternative } => bound_of_choice(
-            alloc, board, standing, past, id, alternative,
-        ),
-        _ => bound_by_run(alloc, board, standing, past, mv, runs),
-    }
 }
 
 fn bounds_of_each(

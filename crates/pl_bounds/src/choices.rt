@@ -5,6 +5,7 @@ ghost use Rattle.pl_plan.specs.Activities.{activity_of};
 ghost use Rattle.pl_plan.specs.declared.repair.RepairMove.TheVariants.{Detail};
 ghost use Rattle.pl_semantics.specs.Legal.{left_after};
 ghost use Rattle.pl_semantics.specs.Moves.{applied};
+ghost use Rattle.pl_bounds.specs.Bounds.{AreLeast};
 ghost use Rattle.pl_bounds.specs.Choosing.{IsAskedByChoice};
 ghost use Rattle.pl_bounds.specs.Plain.{count_of_plain};
 ghost use Rattle.pl_bounds.specs.Sides.{IsOutsideOf, AreDifferent};
@@ -18,12 +19,12 @@ use crate::ending::look_at_ends;
 use crate::remainder::{left_alone_by_choice, left_by_choice};
 use crate::marks::count_of_marks;
 use crate::newcomers::newcomers;
-use crate::outside::Outside;
+use crate::outside::{Outside, outsides};
 use crate::sorting::parts_of;
-use crate::standing::Standing;
+use crate::standing::{Standing, standing_of};
 use crate::worsening::widen;
 use pl_board::Board;
-use pl_plan::Activity;
+use pl_plan::{Activity, RepairMove};
 use std::alloc::{AllocError, Global};
 
 // Beside the conflicts of goals, of activities and of links that the choice leaves, so many at least: how often timelines are past their
@@ -85,4 +86,103 @@ pub(crate) fn least_of_choice(
     let asking = asked_by_choice(alloc, board, root, alternative, &alone)?;
     let others = others_by_choice(alloc, board, &asking, root, alternative, past)?;
     Ok(plain.saturating_add(links).saturating_add(others))
+}
+
+// The same of the choice of an alternative of this activity, if it is a root.
+fn bound_of_root(
+    alloc: Global,
+    board: &Board,
+    standing: &Standing,
+    root: &Activity,
+    alternative: u32,
+    past: &mut Vec<Outside>,
+) -> Result<u32, AllocError>
+    requires unspoiled { board.now.spoiled ≡ false }
+    requires next { board.now.state.next_id ≤ 3999999000 }
+    requires standing { IsStandingOf board.now.state standing.now }
+    requires of_plan { All (IsOutsideOf board.now.state) past.old.items }
+    requires different { AreDifferent past.old.items }
+    requires live { activity_of root.now.id board.now.state.plan.activities ≡ Some root.now }
+    requires allowed { CanBeMade board.now.state (Detail root.now.id alternative) }
+    ensures of_plan { OnOk result (All (IsOutsideOf board.now.state) past.new.items) }
+    ensures different { OnOk result (AreDifferent past.new.items) }
+    ensures least { IfOk result (λ n. n ≤ left_after board.now.state (Detail root.now.id alternative)) }
+{
+    if root.parent.is_some() {
+        return Ok(0);
+    }
+    least_of_choice(alloc, board, standing, root, alternative, past)
+}
+
+// The same of the choice of an alternative of the activity of this id.
+fn bound_of_id(
+    alloc: Global,
+    board: &Board,
+    standing: &Standing,
+    id: u32,
+    alternative: u32,
+    past: &mut Vec<Outside>,
+) -> Result<u32, AllocError>
+    requires unspoiled { board.now.spoiled ≡ false }
+    requires next { board.now.state.next_id ≤ 3999999000 }
+    requires standing { IsStandingOf board.now.state standing.now }
+    requires of_plan { All (IsOutsideOf board.now.state) past.old.items }
+    requires different { AreDifferent past.old.items }
+    requires allowed { CanBeMade board.now.state (Detail id alternative) }
+    ensures of_plan { OnOk result (All (IsOutsideOf board.now.state) past.new.items) }
+    ensures different { OnOk result (AreDifferent past.new.items) }
+    ensures least { IfOk result (λ n. n ≤ left_after board.now.state (Detail id alternative)) }
+{
+    match board.state().live(id) {
+        Some(root) => bound_of_root(alloc, board, standing, root, alternative, past),
+        None => Ok(0),
+    }
+}
+
+// The same of any move: nothing is known of one that does not choose an alternative.
+fn bound_of(
+    alloc: Global,
+    board: &Board,
+    standing: &Standing,
+    mv: &RepairMove,
+    past: &mut Vec<Outside>,
+) -> Result<u32, AllocError>
+    requires unspoiled { board.now.spoiled ≡ false }
+    requires next { board.now.state.next_id ≤ 3999999000 }
+    requires standing { IsStandingOf board.now.state standing.now }
+    requires of_plan { All (IsOutsideOf board.now.state) past.old.items }
+    requires different { AreDifferent past.old.items }
+    requires allowed { CanBeMade board.now.state mv.now }
+    ensures of_plan { OnOk result (All (IsOutsideOf board.now.state) past.new.items) }
+    ensures different { OnOk result (AreDifferent past.new.items) }
+    ensures least { IfOk result (λ n. n ≤ left_after board.now.state mv.now) }
+{
+    match *mv {
+        RepairMove::Detail { id, alternative } => {
+            bound_of_id(alloc, board, standing, id, alternative, past)
+        }
+        _ => Ok(0),
+    }
+}
+
+/// For each of these moves, which choose alternatives of a root, a number of conflicts that it leaves at least, known without making it. No
+/// clause says how near these come: of other moves the number is 0. An error is want of memory.
+pub fn least_of_choices(
+    alloc: Global,
+    board: &Board,
+    moves: &[RepairMove],
+) -> Result<Vec<u32>, AllocError>
+    requires unspoiled { board.now.spoiled ≡ false }
+    requires next { board.now.state.next_id ≤ 3999999000 }
+    requires allowed { All (CanBeMade board.now.state) moves.now }
+    ensures { IfOk result (λ ns. AreLeast board.now.state moves.now ns.items) }
+{
+    let standing = standing_of(alloc, board)?;
+    let mut past = outsides(alloc, board)?;
+    let mut bounds = Vec::with_capacity(alloc, moves.len())?;
+    'moves: for mv in moves {
+        let bound = bound_of(alloc, board, &standing, mv, &mut past)?;
+        bounds.push(bound)?;
+    }
+    Ok(bounds)
 }

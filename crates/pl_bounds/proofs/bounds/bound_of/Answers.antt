@@ -5,7 +5,7 @@ use Rattle.pl_bounds.specs.Known.{IsRunOf}
 use Rattle.pl_bounds.specs.Sides.{AreDifferent}
 use Rattle.pl_bounds.specs.declared.outside.Outside.{Outside}
 use Rattle.pl_bounds.specs.declared.runs.Run.{Run}
-use Rattle.pl_bounds.proofs.bounds.bound_by_run.Goals as goal
+use Rattle.pl_bounds.proofs.bounds.bound_of.Goals as goal
 
 pub least_by-requires-clause-run : goal.least_by-requires-clause-run
 least_by-requires-clause-run c =
