@@ -65,3 +65,4 @@ pub mod Detailed
 pub mod Unlinked
 pub mod Exchanged
 pub mod Remainders
+pub mod Breached

@@ -43,6 +43,15 @@ pub record DoesNotAllow (o : Option Timeline) (from to : ℕ) : Type 0 where
   pub has : HasSteps any steps o
   pub bad : is_allowed any steps from to ≡ false
 
+-- It comes, with an id that was not given before, and no set that comes stands behind it at its moment, which lies ahead.
+pub record IsNewLast (s : PlanState) (a : Asking) (line : ℕ) (x : Setting) : Type 0 where
+  pub states : IsStateLine (slice_get s.model.timelines line)
+  pub comes : Has x (sets_asked line a.coming.items)
+  pub newest : s.next_id ≤ x.id
+  pub later : s.moment < x.at
+  pub horizon : x.at < s.model.horizon
+  pub last : EachSet line (IsNotBehind x) a.coming.items
+
 -- ---- once what is asked for has been exchanged
 
 abbrev pub StandsThen : PlanState → Asking → Mark → Type 0

@@ -6,6 +6,7 @@ mod alone;
 mod asking;
 mod bounding;
 mod bounds;
+mod breaches;
 mod choices;
 mod choosing;
 mod crossing;
