@@ -1,5 +1,5 @@
 -- What the choice of an alternative leaves, by what stands where the root is alone in a plan.
-use Rattle.std.proofs.Common.{◌≡◌, ℕ, ◌+◌, ◌≤◌, List, [], ◌∷◌, map, filter, drop, length, Some, None, refl, sym, ap, ◌∙◌, subst, arith}
+use Rattle.std.proofs.Common.{◌≡◌, ℕ, suc, ◌+◌, ◌-◌, ◌≤◌, Bool, true, false, cond, List, [], ◌∷◌, map, filter, length, Some, None, ap, ◌∙◌, subst, arith}
 use Rattle.pl_plan.specs.declared.activity.Activity.{Activity}
 use Rattle.pl_plan.specs.declared.repair.RepairMove.TheVariants.{Detail}
 use Rattle.pl_plan.specs.Trees.{id_of}
@@ -23,14 +23,21 @@ module _ (s : PlanState) (whole : IsWhole s) (next : s.next_id ≤ 3999999000) (
   placed_is : placed ≡ detailed alternative (without_goal a) ∷ mine s whole next a here root alternative can
   placed_is = alone ∙ alone_is s whole next a here root alternative can
 
-  pub some_placed : 1 ≤ length placed
-  some_placed = let e = ap (λ (l : List Activity). length l) placed_is in omega (arith, e)
+  but_one : (x : Activity) (xs : List Activity) → length (filter (lacks s) (x ∷ xs)) ≤ suc (length (filter (lacks s) xs))
+  but_one x xs = by (lacks s x)
+    where
+      by : (b : Bool) → length (cond b (x ∷ filter (lacks s) xs) (filter (lacks s) xs)) ≤ suc (length (filter (lacks s) xs))
+      by true = omega arith
+      by false = omega arith
 
-  pub plain_left : (ids : List ℕ) → ids ≡ map id_of placed → (n m : ℕ) → n ≤ length (filter (is_elsewhere ids) (conflicts_of s)) → m ≤ length (filter (lacks s) (drop 1 placed)) → n + m ≤ count_of_plain (applied s (Detail a.id alternative))
+  -- one of those that lack an alternative may be the root
+  pub plain_left : (ids : List ℕ) → ids ≡ map id_of placed → (n m : ℕ) → n ≤ length (filter (is_elsewhere ids) (conflicts_of s)) → m ≤ length (filter (lacks s) placed) → n + (m - 1) ≤ count_of_plain (applied s (Detail a.id alternative))
   plain_left ids are n m few some =
-      choice_left s whole next a here root alternative can n m
+      let all : m ≤ length (filter (lacks s) (detailed alternative (without_goal a) ∷ mine s whole next a here root alternative can)) = subst (λ (l : List Activity). m ≤ length (filter (lacks s) l)) placed_is some in
+      let but = but_one (detailed alternative (without_goal a)) (mine s whole next a here root alternative can) in
+      choice_left s whole next a here root alternative can n (m - 1)
       (subst (λ (l : List ℕ). n ≤ length (filter (is_elsewhere l) (conflicts_of s))) (are ∙ ap (map id_of) placed_is) few)
-      (subst (λ (l : List Activity). m ≤ length (filter (lacks s) (drop 1 l))) placed_is some)
+      (omega (arith, all, but))
 
   pub alone_left : (kinds : List ℕ) → kinds ≡ map kind_of_one placed → (n : ℕ) → n ≤ count_of_untouched s (a.id ∷ []) kinds None → n ≤ count_of_links (applied s (Detail a.id alternative))
   alone_left kinds are n few = links_left s whole next a here root alternative can n (subst (λ (l : List ℕ). n ≤ count_of_untouched s (a.id ∷ []) l None) (are ∙ ap (map kind_of_one) placed_is) few)

@@ -1,5 +1,5 @@
 //! States that other activities need and that a new set changes.
-ghost use Rattle.std.specs.Prelude.{◌≡◌, ◌≢◌, ◌≤◌, ◌<◌, ◌∷◌, [], ⊥, ℕ, false, Some, IfSome, IsTrue, OnOk, slice_get};
+ghost use Rattle.std.specs.Prelude.{◌≡◌, ◌≢◌, ◌≤◌, ◌<◌, ◌∷◌, [], ℕ, false, Some, IfSome, IsTrue, OnOk, slice_get};
 ghost use Rattle.std.specs.Option.{option_map};
 ghost use Rattle.pl_model.specs.declared.reservations.Reservation.TheVariants as reservation;
 ghost use Rattle.pl_semantics.specs.Links.{placed_of};
@@ -207,8 +207,8 @@ fn is_new_last(board: &Board, asking: &Asking, line: u32, set: &Setting) -> bool
     is_last(asking.coming.as_slice(), line, set)
 }
 
-/// Marks states that other activities need and that this set changes, which comes.
-pub(crate) fn mark_broken(
+// Marks states that other activities need and that this set changes, which comes.
+fn mark_broken(
     board: &Board,
     asking: &Asking,
     line: u32,
@@ -223,4 +223,35 @@ pub(crate) fn mark_broken(
         return Ok(());
     }
     mark_all(board, asking, line, set, marks)
+}
+
+fn mark_by(
+    board: &Board,
+    asking: &Asking,
+    demand: &Demand,
+    marks: &mut Vec<Mark>,
+) -> Result<(), AllocError>
+    requires unspoiled { board.now.spoiled ≡ false }
+    requires comes { Has demand.now asking.now.coming.items }
+    ensures { OnOk result (AreMarksThen board.now.state asking.now marks.old.items → AreMarksThen board.now.state asking.now marks.new.items) }
+{
+    match &demand.asked {
+        Asked::Set(set) => mark_broken(board, asking, demand.line, set, marks),
+        _ => Ok(()),
+    }
+}
+
+/// Marks states that other activities need and that sets which come change.
+pub(crate) fn add_breaches(
+    board: &Board,
+    asking: &Asking,
+    marks: &mut Vec<Mark>,
+) -> Result<(), AllocError>
+    requires { board.now.spoiled ≡ false }
+    ensures { OnOk result (AreMarksThen board.now.state asking.now marks.old.items → AreMarksThen board.now.state asking.now marks.new.items) }
+{
+    for demand in asking.coming.as_slice() {
+        mark_by(board, asking, demand, marks)?;
+    }
+    Ok(())
 }

@@ -1,5 +1,5 @@
 //! How many conflicts the choice of an alternative of a root leaves at least.
-ghost use Rattle.std.specs.Prelude.{◌≡◌, ◌≤◌, ◌+◌, false, All, None, Some, IfOk, OnOk};
+ghost use Rattle.std.specs.Prelude.{◌≡◌, ◌≤◌, ◌+◌, ◌∷◌, [], false, All, None, Some, IfOk, OnOk};
 ghost use Rattle.pl_moves.specs.Runs.{CanBeMade};
 ghost use Rattle.pl_plan.specs.Activities.{activity_of};
 ghost use Rattle.pl_plan.specs.declared.repair.RepairMove.TheVariants.{Detail};
@@ -8,12 +8,15 @@ ghost use Rattle.pl_semantics.specs.Moves.{applied};
 ghost use Rattle.pl_bounds.specs.Bounds.{AreLeast};
 ghost use Rattle.pl_bounds.specs.Choosing.{IsAskedByChoice};
 ghost use Rattle.pl_bounds.specs.Plain.{count_of_plain};
-ghost use Rattle.pl_bounds.specs.Sides.{IsOutsideOf, AreDifferent};
+ghost use Rattle.pl_bounds.specs.Sides.{IsOutsideOf, AreDifferent, times_past};
+ghost use Rattle.pl_moves.specs.Changes.{placed_by};
+ghost use Rattle.pl_update.specs.Changes.Replaced.{with_plan};
 ghost use Rattle.pl_bounds.specs.Standing.{IsStandingOf};
 ghost use Rattle.pl_bounds.specs.Ties.{count_of_links};
 
 use crate::asking::Asking;
 use crate::bounding::past_after;
+use crate::breaches::add_breaches;
 use crate::choosing::{asked_by_choice, chosen_alone};
 use crate::ending::look_at_ends;
 use crate::remainder::{left_alone_by_choice, left_by_choice};
@@ -27,14 +30,38 @@ use pl_board::Board;
 use pl_plan::{Activity, RepairMove};
 use std::alloc::{AllocError, Global};
 
+// How often timelines are past their limits at least. Limits that what comes may pass are put behind those that are looked at.
+fn times_by_choice(
+    alloc: Global,
+    board: &Board,
+    asking: &Asking,
+    root: &Activity,
+    alternative: u32,
+    past: &mut Vec<Outside>,
+) -> Result<u32, AllocError>
+    requires unspoiled { board.now.spoiled ≡ false }
+    requires of_plan { All (IsOutsideOf board.now.state) past.old.items }
+    requires different { AreDifferent past.old.items }
+    requires asked { IsAskedByChoice board.now.state root.now.id alternative asking.now }
+    ensures of_plan { OnOk result (All (IsOutsideOf board.now.state) past.new.items) }
+    ensures different { OnOk result (AreDifferent past.new.items) }
+    ensures least { IfOk result (λ n. n ≤ times_past (with_plan (root.now.id ∷ []) (placed_by board.now.state (Detail root.now.id alternative)) board.now.state) past.new.items) }
+{
+    widen(alloc, board, asking.coming.as_slice(), past)?;
+    look_at_ends(alloc, board, asking.coming.as_slice(), past)?;
+    let parts = parts_of(alloc, past.as_slice(), asking)?;
+    Ok(past_after(board, past.as_slice(), asking, parts.as_slice(), 0))
+}
+
 // Beside the conflicts of goals, of activities and of links that the choice leaves, so many at least: how often timelines are past their
-// limits, and what is wrong with states that it needs and sets.
+// limits, and what is wrong with states by what comes. If more than so many are known, the rest is not worked out.
 fn others_by_choice(
     alloc: Global,
     board: &Board,
     asking: &Asking,
     root: &Activity,
     alternative: u32,
+    most: u32,
     past: &mut Vec<Outside>,
 ) -> Result<u32, AllocError>
     requires unspoiled { board.now.spoiled ≡ false }
@@ -49,13 +76,17 @@ fn others_by_choice(
         ≤ left_after board.now.state (Detail root.now.id alternative)) }
 {
     let _state = board.state();
-    widen(alloc, board, asking.coming.as_slice(), past)?;
-    look_at_ends(alloc, board, asking.coming.as_slice(), past)?;
-    let parts = parts_of(alloc, past.as_slice(), asking)?;
-    let times = past_after(board, past.as_slice(), asking, parts.as_slice(), 0);
-    let marks = newcomers(alloc, board, asking)?;
+    let mut marks = newcomers(alloc, board, asking)?;
     let states = count_of_marks(marks.as_slice());
-    Ok(states.saturating_add(times))
+    if most < states {
+        return Ok(states);
+    }
+    let times = times_by_choice(alloc, board, asking, root, alternative, past)?;
+    if most < states.saturating_add(times) {
+        return Ok(states.saturating_add(times));
+    }
+    add_breaches(board, asking, &mut marks)?;
+    Ok(count_of_marks(marks.as_slice()).saturating_add(times))
 }
 
 /// A number of conflicts that the choice leaves at least. Limits that it may pass are put behind those that are looked at.
@@ -84,8 +115,10 @@ pub(crate) fn least_of_choice(
     let plain = left_by_choice(alloc, board, root, alternative, placed)?;
     let links = left_alone_by_choice(alloc, board, standing, root, alternative, placed)?;
     let asking = asked_by_choice(alloc, board, root, alternative, &alone)?;
-    let others = others_by_choice(alloc, board, &asking, root, alternative, past)?;
-    Ok(plain.saturating_add(links).saturating_add(others))
+    let known = plain.saturating_add(links);
+    let most = board.conflicts().len().saturating_sub(known);
+    let others = others_by_choice(alloc, board, &asking, root, alternative, most, past)?;
+    Ok(known.saturating_add(others))
 }
 
 // The same of the choice of an alternative of this activity, if it is a root.

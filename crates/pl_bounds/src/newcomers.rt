@@ -1,5 +1,4 @@
-//! What is wrong with states by what comes: states that it needs and does not find, steps that it takes though they are not allowed, and
-//! states that others need and that it changes.
+//! States that what comes needs and does not find, and steps that it takes though they are not allowed.
 ghost use Rattle.std.specs.Prelude.{◌≡◌, ◌≤◌, false, IsTrue, OnOk, IfOk, slice_get, Some};
 ghost use Rattle.pl_conflict.specs.declared.conflict.Code.TheVariants as code;
 ghost use Rattle.pl_model.specs.declared.timelines.Timeline.{Timeline};
@@ -10,7 +9,6 @@ ghost use Rattle.pl_bounds.specs.Seen.{AreMarksThen, DoesNotAllow, StandsThen};
 ghost use Rattle.pl_bounds.specs.Settings.{musts_asked, sets_asked};
 
 use crate::asking::Asking;
-use crate::breaches::mark_broken;
 use crate::marks::{Mark, add_mark};
 use crate::seen::{hangs_on_none, hangs_on_none_before, seen_at};
 use pl_board::Board;
@@ -164,23 +162,6 @@ fn mark_step(
     Ok(())
 }
 
-// What its step and its state do.
-fn mark_set(
-    board: &Board,
-    asking: &Asking,
-    line: u32,
-    set: &Setting,
-    marks: &mut Vec<Mark>,
-) -> Result<(), AllocError>
-    requires unspoiled { board.now.spoiled ≡ false }
-    requires comes { Has set.now (sets_asked line asking.now.coming.items) }
-    ensures { OnOk result (AreMarksThen board.now.state asking.now marks.old.items → AreMarksThen board.now.state asking.now marks.new.items) }
-{
-    mark_step(board, asking, line, set, marks)?;
-    mark_broken(board, asking, line, set, marks)?;
-    Ok(())
-}
-
 // ---- both
 
 fn mark_one(
@@ -195,7 +176,7 @@ fn mark_one(
 {
     match &demand.asked {
         Asked::Must(must) => mark_must(board, asking, demand.line, must, marks),
-        Asked::Set(set) => mark_set(board, asking, demand.line, set, marks),
+        Asked::Set(set) => mark_step(board, asking, demand.line, set, marks),
         _ => Ok(()),
     }
 }

@@ -25,12 +25,12 @@ fn lacks(s: &PlanState, a: &Activity) -> bool
 }
 
 // How many of them have a kind with alternatives.
-fn count_lacking(s: &PlanState, children: &[Activity]) -> u32
-    ensures { result ≤ length (filter (lacks s.now) children.now) }
+fn count_lacking(s: &PlanState, all: &[Activity]) -> u32
+    ensures { result ≤ length (filter (lacks s.now) all.now) }
 {
     let mut count = 0;
-    for child in children {
-        count = count_if(lacks(s, child), count);
+    for a in all {
+        count = count_if(lacks(s, a), count);
     }
     count
 }
@@ -74,7 +74,8 @@ pub(crate) fn left_by_choice(
     let s = board.state();
     let ids = ids_of(alloc, placed)?;
     let others = count_elsewhere(board.conflicts(), ids.as_slice());
-    let lacking = count_lacking(s, &placed[1..]);
+    // The root itself has an alternative.
+    let lacking = count_lacking(s, placed).saturating_sub(1);
     Ok(others.saturating_add(lacking))
 }
 

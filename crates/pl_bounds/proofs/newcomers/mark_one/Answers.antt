@@ -9,7 +9,7 @@ mark_must-requires-clause-comes c =
     let d = c.args.demand.now in
     has_flat (asked_of must_in d.line) d c.in-Must.must c.args.asking.now.coming.items c.requires.comes (rw (eq-eqb d.line d.line refl, c.in-Must.is) (inl refl))
 
-pub mark_set-requires-clause-comes : goal.mark_set-requires-clause-comes
-mark_set-requires-clause-comes c =
+pub mark_step-requires-clause-comes : goal.mark_step-requires-clause-comes
+mark_step-requires-clause-comes c =
     let d = c.args.demand.now in
     has_flat (asked_of set_in d.line) d c.in-Set.set c.args.asking.now.coming.items c.requires.comes (rw (eq-eqb d.line d.line refl, c.in-Set.is) (inl refl))
