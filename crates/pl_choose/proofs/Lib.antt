@@ -8,3 +8,4 @@ pub mod Instead
 pub mod InTurn
 pub mod Promise
 pub mod Last
+pub mod Sieved
