@@ -1,11 +1,9 @@
 //! States that other activities need and that a new set changes.
 ghost use Rattle.std.specs.Prelude.{◌≡◌, ◌≢◌, ◌≤◌, ◌<◌, ◌∷◌, [], ℕ, false, Some, IfSome, IsTrue, OnOk, slice_get};
-ghost use Rattle.std.specs.Option.{option_map};
-ghost use Rattle.pl_model.specs.declared.reservations.Reservation.TheVariants as reservation;
-ghost use Rattle.pl_semantics.specs.Links.{placed_of};
-ghost use Rattle.pl_semantics.specs.PlanStates.{found, reservations_in};
+ghost use Rattle.pl_model.specs.declared.reservations.Reservation.TheVariants as variant;
+ghost use Rattle.pl_semantics.specs.PlanStates.{reservations_in};
 ghost use Rattle.pl_state.specs.Keys.{Has};
-ghost use Rattle.pl_bounds.specs.Seen.{AreMarksThen, IsNewLast};
+ghost use Rattle.pl_bounds.specs.Seen.{AreMarksThen, IsNewLast, IsPlaced};
 ghost use Rattle.pl_bounds.specs.Settings.{musts_asked, sets_asked};
 
 use crate::asking::Asking;
@@ -24,7 +22,7 @@ const NEAR: u32 = 48;
 
 // The other state that a reservation needs of this timeline, if it needs one.
 fn needs_other(reservation: &Reservation, line: u32, state: u32) -> Option<u32>
-    ensures is { IfSome result (λ q. reservation.now ≡ reservation.Must line q) }
+    ensures is { IfSome result (λ q. reservation.now ≡ variant.Must line q) }
     ensures other { IfSome result (λ q. state ≢ q) }
 {
     match reservation {
@@ -74,7 +72,7 @@ fn mark_reservation(
 ) -> Result<(), AllocError>
     requires unspoiled { board.now.spoiled ≡ false }
     requires new { IsNewLast board.now.state asking.now line set.now }
-    requires placed { option_map (placed_of board.now.state) (found board.now.state own.now.id) ≡ Some own.now }
+    requires placed { IsPlaced board.now.state own.now }
     requires reserved { slice_get (reservations_in (slice_get board.now.state.model.kinds own.now.kind)) index ≡ Some reservation.now }
     ensures { OnOk result (AreMarksThen board.now.state asking.now marks.old.items → AreMarksThen board.now.state asking.now marks.new.items) }
 {
@@ -119,6 +117,36 @@ fn reservations_of(model: &Model, kind: u32) -> &[Reservation]
     }
 }
 
+// The same of its reservation of this number.
+fn mark_at(
+    board: &Board,
+    asking: &Asking,
+    line: u32,
+    set: &Setting,
+    own: &Placed,
+    index: u32,
+    marks: &mut Vec<Mark>,
+) -> Result<(), AllocError>
+    requires unspoiled { board.now.spoiled ≡ false }
+    requires new { IsNewLast board.now.state asking.now line set.now }
+    requires placed { IsPlaced board.now.state own.now }
+    ensures { OnOk result (AreMarksThen board.now.state asking.now marks.old.items → AreMarksThen board.now.state asking.now marks.new.items) }
+{
+    match reservations_of(board.model(), own.kind).get(index as usize) {
+        Some(reservation) => mark_reservation(
+            board,
+            asking,
+            line,
+            set,
+            own,
+            index,
+            reservation,
+            marks,
+        ),
+        None => Ok(()),
+    }
+}
+
 // The same of all its reservations.
 fn mark_activity(
     board: &Board,
@@ -130,21 +158,12 @@ fn mark_activity(
 ) -> Result<(), AllocError>
     requires unspoiled { board.now.spoiled ≡ false }
     requires new { IsNewLast board.now.state asking.now line set.now }
-    requires placed { option_map (placed_of board.now.state) (found board.now.state own.now.id) ≡ Some own.now }
+    requires placed { IsPlaced board.now.state own.now }
     ensures { OnOk result (AreMarksThen board.now.state asking.now marks.old.items → AreMarksThen board.now.state asking.now marks.new.items) }
 {
-    let reservations = reservations_of(board.model(), own.kind);
-    for (index, reservation) in reservations.iter().enumerate() {
-        mark_reservation(
-            board,
-            asking,
-            line,
-            set,
-            own,
-            index as u32,
-            reservation,
-            marks,
-        )?;
+    let count = reservations_of(board.model(), own.kind).len();
+    for index in 0..count.min(u32::MAX as usize) as u32 {
+        mark_at(board, asking, line, set, own, index, marks)?;
     }
     Ok(())
 }

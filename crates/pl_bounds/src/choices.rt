@@ -82,8 +82,9 @@ fn others_by_choice(
         return Ok(states);
     }
     let times = times_by_choice(alloc, board, asking, root, alternative, past)?;
-    if most < states.saturating_add(times) {
-        return Ok(states.saturating_add(times));
+    let both = states.saturating_add(times);
+    if most < both {
+        return Ok(both);
     }
     add_breaches(board, asking, &mut marks)?;
     Ok(count_of_marks(marks.as_slice()).saturating_add(times))
