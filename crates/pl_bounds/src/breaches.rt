@@ -1,9 +1,11 @@
 //! States that other activities need and that a new set changes.
 ghost use Rattle.std.specs.Prelude.{◌≡◌, ◌≢◌, ◌≤◌, ◌<◌, ◌∷◌, [], ℕ, false, Some, IfSome, IsTrue, OnOk, slice_get};
+ghost use Rattle.pl_conflict.specs.declared.conflict.Code.TheVariants as code;
 ghost use Rattle.pl_model.specs.declared.reservations.Reservation.TheVariants as variant;
 ghost use Rattle.pl_semantics.specs.PlanStates.{reservations_in};
 ghost use Rattle.pl_state.specs.Keys.{Has};
-ghost use Rattle.pl_bounds.specs.Seen.{AreMarksThen, IsNewLast, IsPlaced};
+ghost use Rattle.pl_bounds.specs.Marks.{mark_of};
+ghost use Rattle.pl_bounds.specs.Seen.{AreMarksThen, IsNewLast, IsPlaced, StandsThen};
 ghost use Rattle.pl_bounds.specs.Settings.{musts_asked, sets_asked};
 
 use crate::asking::Asking;
@@ -59,7 +61,45 @@ fn are_of_others(demands: &[Demand], must: &Must) -> bool
     true
 }
 
-// Marks what an activity needs by this reservation, if the set changes it.
+// Whether the set changes a state that an activity needs by this reservation.
+fn is_broken(
+    board: &Board,
+    asking: &Asking,
+    line: u32,
+    set: &Setting,
+    own: &Placed,
+    index: u32,
+    reservation: &Reservation,
+) -> bool
+    requires unspoiled { board.now.spoiled ≡ false }
+    requires new { IsNewLast board.now.state asking.now line set.now }
+    requires placed { IsPlaced board.now.state own.now }
+    requires reserved { slice_get (reservations_in (slice_get board.now.state.model.kinds own.now.kind)) index ≡ Some reservation.now }
+    ensures { IsTrue result → StandsThen board.now.state asking.now (mark_of code.Must own.now.id index) }
+{
+    let _state = board.state();
+    let Some(end) = own.end else {
+        return false;
+    };
+    if set.at < own.start {
+        return false;
+    }
+    if end <= set.at {
+        return false;
+    }
+    let Some(state) = needs_other(reservation, line, set.state) else {
+        return false;
+    };
+    let must = Must {
+        from: own.start,
+        to: end,
+        id: own.id,
+        index,
+        state,
+    };
+    are_of_others(asking.going.as_slice(), &must)
+}
+
 fn mark_reservation(
     board: &Board,
     asking: &Asking,
@@ -76,27 +116,7 @@ fn mark_reservation(
     requires reserved { slice_get (reservations_in (slice_get board.now.state.model.kinds own.now.kind)) index ≡ Some reservation.now }
     ensures { OnOk result (AreMarksThen board.now.state asking.now marks.old.items → AreMarksThen board.now.state asking.now marks.new.items) }
 {
-    let _state = board.state();
-    let Some(end) = own.end else {
-        return Ok(());
-    };
-    if set.at < own.start {
-        return Ok(());
-    }
-    if end <= set.at {
-        return Ok(());
-    }
-    let Some(state) = needs_other(reservation, line, set.state) else {
-        return Ok(());
-    };
-    let must = Must {
-        from: own.start,
-        to: end,
-        id: own.id,
-        index,
-        state,
-    };
-    if !are_of_others(asking.going.as_slice(), &must) {
+    if !is_broken(board, asking, line, set, own, index, reservation) {
         return Ok(());
     }
     let mark = Mark {
