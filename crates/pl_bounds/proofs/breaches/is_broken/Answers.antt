@@ -18,10 +18,10 @@ returns c = λ free gone more x.
     let own = c.args.own.now in
     let a = c.args.asking.now in
     let set = c.args.set.now in
-    let state = c.in-Some-2.state in
+    let state = c.in-Some-needs_other.state in
     let whole : IsWhole s = subst IsWhole c.state-state.ensures.value (c.state-state.ensures.whole c.requires.unspoiled) in
     let m : Must = must_of own.start c.in-Some.end own.id c.args.index state in
-    let is : slice_get (reservations_in (slice_get s.model.kinds own.kind)) c.args.index ≡ Some (variant.Must c.args.line state) = c.requires.reserved ∙ ap Some c.in-Some-2.ensures.is in
+    let is : slice_get (reservations_in (slice_get s.model.kinds own.kind)) c.args.index ≡ Some (variant.Must c.args.line state) = c.requires.reserved ∙ ap Some c.in-Some-needs_other.ensures.is in
     let needed = needed_is s c.args.line state c.args.index c.requires.placed.id c.in-Some.end own c.requires.placed.is c.in-Some.is is in
     let stays : (k : ℕ) → Has m (musts_asked k a.going.items) → ⊥ = subst (λ (ds : List Demand). (k : ℕ) → Has m (musts_asked k ds) → ⊥) c.as_slice.ensures.value (c.are_of_others.ensures free) in
-    broken_then s whole a c.args.line set c.requires.new m needed stays (omega (arith, c.if-set-own.false)) (omega (arith, c.if-end-set.false)) c.in-Some-2.ensures.other gone more x
+    broken_then s whole a c.args.line set c.requires.new m needed stays (omega (arith, c.if-set-own.false)) (omega (arith, c.if-end-set.false)) c.in-Some-needs_other.ensures.other gone more x
