@@ -60,8 +60,7 @@ told : (s : PlanState) (ks : List Mark) → AreMarks s ks → (qs : List Conflic
 told s [] are = ([], record { apart = tt; stand = λ q e. absurd (let bad : false ≡ true = e in cc); from = λ q e. absurd (let bad : false ≡ true = e in cc); many = refl })
 told s (k ∷ ks) are =
     let rest = told s ks (record { stand = λ m has. are.stand m (inr has); other = are.other.1 }) in
-    let one = are.stand k (inl refl) in
-    (
+    let one = are.stand k (inl refl) in (
       one.q ∷ rest.0,
       record {
         apart = (false_from_ne_true (has one.q rest.0) (λ e. are.other.0 (subst (λ (m : Mark). Has m ks) one.is (rest.1.from one.q e))), rest.1.apart);
@@ -74,7 +73,7 @@ told s (k ∷ ks) are =
           | inr more ↦ inr (rest.1.from q more)
         ];
         many = ap suc rest.1.many;
-      }
+      },
     )
 
 pub marks_few : (s : PlanState) (ks : List Mark) (n : ℕ) → n ≤ length ks → AreMarks s ks → n ≤ count_of_states s

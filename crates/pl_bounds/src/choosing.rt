@@ -59,12 +59,7 @@ pub(crate) fn chosen_alone(
     let trial = trial_of(alloc, &alone, &mv)?;
     let placed = trial.change.placed.as_slice();
     let next = next_after(alone.next_id, placed);
-    replace(
-        alloc,
-        &mut alone.plan,
-        trial.change.gone.as_slice(),
-        placed,
-    )?;
+    replace(alloc, &mut alone.plan, trial.change.gone.as_slice(), placed)?;
     alone.next_id = next;
     Ok(alone)
 }

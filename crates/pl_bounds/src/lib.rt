@@ -13,7 +13,6 @@ mod crossing;
 mod elsewhere;
 mod ending;
 mod known;
-
 mod laws;
 mod link_conflicts;
 mod looking;

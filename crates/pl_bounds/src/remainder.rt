@@ -102,5 +102,10 @@ pub(crate) fn left_alone_by_choice(
         return Ok(0);
     }
     let kinds = kinds_of(alloc, placed)?;
-    Ok(count_left(standing.links.as_slice(), &[root.id], kinds.as_slice(), None))
+    Ok(count_left(
+        standing.links.as_slice(),
+        &[root.id],
+        kinds.as_slice(),
+        None,
+    ))
 }
