@@ -144,7 +144,7 @@ module _ (s : PlanState) (whole : IsWhole s) (next : s.next_id ≤ 3999999000) (
       steady s (applied s m) numbers concerned whole (whole_then s whole next m of can) (follows s whole next m of can) q (plain_is q plain) there
       (not_near s numbers concerned q e (others q.subject (not-true (among q.subject ids) either)))
 
-  elsewhere_stays : (q : Conflict) → has q (filter (is_elsewhere ids) (conflicts_of s)) ≡ true → (has q (conflicts_of (applied s m)) ≡ true) × (is_plain q ≡ true)
+  pub elsewhere_stays : (q : Conflict) → has q (filter (is_elsewhere ids) (conflicts_of s)) ≡ true → (has q (conflicts_of (applied s m)) ≡ true) × (is_plain q ≡ true)
   elsewhere_stays q h =
       let both = has_passing (is_elsewhere ids) (conflicts_of s) q h in
       let two = and_parts (is_plain q) (is_open_one q || not (among q.subject ids)) both.1 in

@@ -1,5 +1,5 @@
--- What demands make of a timeline: the uses or the effects among them.
-use Rattle.std.proofs.Common.{◌≡◌, ℕ, Bool, true, false, cond, eqb, List, [], ◌∷◌, refl, ℤ, pos, ◌+ℤ◌, arith}
+-- What demands make of a timeline: none moved, and the uses or the effects among them.
+use Rattle.std.proofs.Common.{◌≡◌, ℕ, Bool, true, false, cond, eqb, List, [], ◌∷◌, map, refl, ap, ◌∙◌, ℤ, pos, ◌+ℤ◌, arith}
 use Rattle.std.proofs.lemmas.Int.{ints}
 use Rattle.pl_points.specs.Sums.{total}
 use Rattle.pl_capacity.specs.Uses.{taken_at}
@@ -10,8 +10,24 @@ use Rattle.pl_semantics.specs.declared.demand.Asked.TheVariants as asked
 use Rattle.pl_semantics.specs.Demands.{asked_of, use_in, effect_in, uses_of, effects_of}
 use Rattle.pl_update.proofs.AboutTimelines.Listing.{total-append}
 use Rattle.pl_bounds.specs.Afterwards.{asked_on}
+use Rattle.pl_bounds.specs.Moved.{moved_to, asked_moved, demand_moved}
 use Rattle.pl_bounds.specs.declared.outside.Side.{Side}
 use Rattle.pl_bounds.specs.declared.outside.Side.TheVariants.{Over, Low, High}
+
+-- ---- none moved
+
+still : (t : ℕ) → moved_to 0 0 t ≡ t
+still t = omega arith
+
+asked_still : (a : Asked) → asked_moved 0 0 a ≡ a
+asked_still (asked.Use u) = ap (λ (f : ℕ). asked.Use (record u { from = f; to = moved_to 0 0 u.to })) (still u.from) ∙ ap (λ (e : ℕ). asked.Use (record u { to = e })) (still u.to)
+asked_still (asked.Effect e) = ap (λ (n : ℕ). asked.Effect (record e { at = n })) (still e.at)
+asked_still (asked.Set x) = ap (λ (n : ℕ). asked.Set (record x { at = n })) (still x.at)
+asked_still (asked.Must m) = ap (λ (f : ℕ). asked.Must (record m { from = f; to = moved_to 0 0 m.to })) (still m.from) ∙ ap (λ (e : ℕ). asked.Must (record m { to = e })) (still m.to)
+
+pub all_still : (ds : List Demand) → map (demand_moved 0 0) ds ≡ ds
+all_still [] = refl
+all_still (d ∷ ds) = ap (λ (a : Asked). record d { asked = a } ∷ map (demand_moved 0 0) ds) (asked_still d.asked) ∙ ap (λ (xs : List Demand). d ∷ xs) (all_still ds)
 
 -- ---- uses or effects
 

@@ -34,3 +34,8 @@ pub mod Looks
 pub mod Ties
 pub mod Orders
 pub mod Remaining
+pub mod Choosing
+pub mod Settings
+pub mod Exchanges
+pub mod Marks
+pub mod Seen

@@ -5,6 +5,7 @@ mod aiming;
 mod alone;
 mod best;
 mod bounded;
+mod deletion;
 mod draw;
 mod fewest;
 mod hopes;
