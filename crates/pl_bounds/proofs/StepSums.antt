@@ -20,8 +20,8 @@ use Rattle.pl_bounds.specs.Steps.{added_by, asked_toward, demand_toward, is_past
 use Rattle.pl_bounds.specs.declared.outside.Outside.{Outside}
 use Rattle.pl_bounds.specs.declared.outside.Side.{Side}
 use Rattle.pl_bounds.specs.declared.outside.Side.TheVariants.{Over, Low, High}
-use Rattle.pl_bounds.specs.declared.steps.Step.{Step}
-use Rattle.pl_bounds.specs.declared.steps.Way.{Way}
+use Rattle.pl_bounds.specs.declared.stepwise.Step.{Step}
+use Rattle.pl_bounds.specs.declared.stepwise.Way.{Way}
 use Rattle.pl_bounds.proofs.Past.{same_spans}
 
 -- ---- one more

@@ -16,7 +16,7 @@ use Rattle.pl_bounds.specs.declared.asking.Asking.{Asking}
 use Rattle.pl_bounds.specs.declared.outside.Side.{Side}
 use Rattle.pl_bounds.specs.declared.outside.Side.TheVariants.{Over, Low, High}
 use Rattle.pl_bounds.specs.declared.outside.Outside.{Outside}
-use Rattle.pl_bounds.specs.declared.steps.Way.{Way}
+use Rattle.pl_bounds.specs.declared.stepwise.Way.{Way}
 
 -- uses count where a capacity is looked at, and effects where a level is
 abbrev pub use_on : Side → ℕ → Use → ℤ

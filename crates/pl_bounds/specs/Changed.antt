@@ -6,8 +6,8 @@ use Rattle.pl_bounds.specs.Tallies.{IsTallyOf}
 use Rattle.pl_bounds.specs.declared.added.Added.{Added}
 use Rattle.pl_bounds.specs.declared.bounding.Walk.{Walk}
 use Rattle.pl_bounds.specs.declared.outside.Outside.{Outside}
-use Rattle.pl_bounds.specs.declared.steps.Step.{Step}
-use Rattle.pl_bounds.specs.declared.steps.Way.{Way}
+use Rattle.pl_bounds.specs.declared.stepwise.Step.{Step}
+use Rattle.pl_bounds.specs.declared.stepwise.Way.{Way}
 
 -- so much is added from a moment on and before another
 abbrev pub IsAddedBy : Outside → Way → List Step → Added → Type 0

@@ -12,8 +12,8 @@ use Rattle.pl_bounds.specs.declared.outside.Outside.{Outside}
 use Rattle.pl_bounds.specs.declared.outside.Side.{Side}
 use Rattle.pl_bounds.specs.declared.outside.Side.TheVariants.{Over, Low, High}
 use Rattle.pl_bounds.specs.declared.sorting.Addition.{Addition}
-use Rattle.pl_bounds.specs.declared.steps.Step.{Step}
-use Rattle.pl_bounds.specs.declared.steps.Way.{Way}
+use Rattle.pl_bounds.specs.declared.stepwise.Step.{Step}
+use Rattle.pl_bounds.specs.declared.stepwise.Way.{Way}
 
 -- ---- one step
 

@@ -1,13 +1,13 @@
 //! What a move adds to a timeline, and up to when.
 ghost use Rattle.std.specs.Prelude.{◌≡◌, ◌≤◌, ◌<◌, ◌+ℤ◌, ℕ, IfSome, IsTrue, List};
 ghost use Rattle.pl_bounds.specs.declared.outside.Outside as looked;
-ghost use Rattle.pl_bounds.specs.declared.steps.Step as taken;
-ghost use Rattle.pl_bounds.specs.declared.steps.Way as ways;
+ghost use Rattle.pl_bounds.specs.declared.stepwise.Step as taken;
+ghost use Rattle.pl_bounds.specs.declared.stepwise.Way as ways;
 ghost use Rattle.pl_bounds.specs.Changed.{IsAddedBy};
 ghost use Rattle.pl_bounds.specs.Steps.{step_on, steps_on};
 
 use crate::outside::{Look, Outside};
-use crate::steps::{Step, Way};
+use crate::stepwise::{Step, Way};
 
 // After every moment.
 const EVER: u64 = u64::MAX;

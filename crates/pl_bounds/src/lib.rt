@@ -30,7 +30,7 @@ mod seen;
 mod sorting;
 mod standing;
 mod steady;
-mod steps;
+mod stepwise;
 mod subtrees;
 mod tally;
 mod ties;

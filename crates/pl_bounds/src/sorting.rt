@@ -4,12 +4,12 @@ ghost use Rattle.pl_points.specs.Sums.{total};
 ghost use Rattle.pl_semantics.specs.declared.demand.Asked.TheVariants as wanted;
 ghost use Rattle.pl_bounds.specs.declared.outside.Outside as looked;
 ghost use Rattle.pl_bounds.specs.declared.outside.Side.TheVariants as sides;
-ghost use Rattle.pl_bounds.specs.declared.steps.Way as ways;
+ghost use Rattle.pl_bounds.specs.declared.stepwise.Way as ways;
 ghost use Rattle.pl_bounds.specs.Steps.{asked_toward, demand_toward, steps_on, IsAdditionOf};
 
 use crate::asking::Asking;
 use crate::outside::{Outside, Side};
-use crate::steps::Step;
+use crate::stepwise::Step;
 use pl_capacity::Use;
 use pl_level::Effect;
 use pl_semantics::{Asked, Demand};

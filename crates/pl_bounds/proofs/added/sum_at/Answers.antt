@@ -2,7 +2,7 @@ use Rattle.std.proofs.Common.{◌≡◌, ℕ, ◌≤◌, ◌+◌, ◌+ℤ◌, Li
 use Rattle.std.proofs.lemmas.Int.{ints}
 use Rattle.std.proofs.lemmas.List.{drop_all}
 use Rattle.pl_bounds.specs.Steps.{steps_on}
-use Rattle.pl_bounds.specs.declared.steps.Step.{Step}
+use Rattle.pl_bounds.specs.declared.stepwise.Step.{Step}
 use Rattle.pl_bounds.proofs.StepSums.{sum_next}
 use Rattle.pl_bounds.proofs.added.sum_at.Goals as goal
 

@@ -1,7 +1,7 @@
 use Rattle.std.proofs.Common.{ℕ, ◌≤◌, [], List, length, sym, subst}
 use Rattle.pl_semantics.specs.Timelines.{spans_ahead}
 use Rattle.pl_bounds.specs.Steps.{is_past_by}
-use Rattle.pl_bounds.specs.declared.steps.Step.{Step}
+use Rattle.pl_bounds.specs.declared.stepwise.Step.{Step}
 use Rattle.pl_bounds.proofs.StepSums.{times_still}
 use Rattle.pl_bounds.proofs.bounding.times_by.Goals as goal
 

@@ -1,8 +1,8 @@
 use Rattle.std.proofs.Common.{◌≡◌, ℕ, ◌≤◌, List, sym, subst}
 use Rattle.pl_bounds.specs.Afterwards.{moved_by}
 use Rattle.pl_bounds.specs.Steps.{added_by, steps_on}
-use Rattle.pl_bounds.specs.declared.steps.Step.{Step}
-use Rattle.pl_bounds.specs.declared.steps.Way.{Way}
+use Rattle.pl_bounds.specs.declared.stepwise.Step.{Step}
+use Rattle.pl_bounds.specs.declared.stepwise.Way.{Way}
 use Rattle.pl_bounds.proofs.StepSums.{times_stepped}
 use Rattle.pl_bounds.proofs.bounding.times_with.Goals as goal
 

@@ -3,7 +3,7 @@ use Rattle.std.proofs.Common.{◌≡◌, ℕ, ◌+ℤ◌, drop}
 use Rattle.pl_points.specs.Sums.{total}
 use Rattle.pl_bounds.specs.Steps.{demand_toward, steps_on}
 use Rattle.pl_bounds.specs.declared.outside.Outside.{Outside}
-use Rattle.pl_bounds.specs.declared.steps.Way.{Way}
+use Rattle.pl_bounds.specs.declared.stepwise.Way.{Way}
 use Rattle.pl_bounds.proofs.sorting.add_demands.Given as goal
 
 abbrev pub invariant-loop-demand : goal.invariant-loop-demand

@@ -4,7 +4,7 @@ use Rattle.pl_points.specs.Sums.{total}
 use Rattle.pl_semantics.specs.declared.demand.Demand.{Demand}
 use Rattle.pl_bounds.specs.Afterwards.{moved_by, pull}
 use Rattle.pl_bounds.specs.Steps.{demand_toward, steps_on}
-use Rattle.pl_bounds.specs.declared.steps.Step.{Step}
+use Rattle.pl_bounds.specs.declared.stepwise.Step.{Step}
 use Rattle.pl_bounds.proofs.StepSums.{coming_all, going_all, with_both}
 use Rattle.pl_bounds.proofs.sorting.addition_of.Goals as goal
 

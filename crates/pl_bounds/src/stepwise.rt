@@ -1,6 +1,6 @@
 //! The steps by which a move changes what a timeline comes to.
 ghost use Rattle.std.specs.Prelude.{◌≡◌, ◌≤◌, ℕ, IfSome};
-ghost use Rattle.pl_bounds.specs.declared.steps.Way as ways;
+ghost use Rattle.pl_bounds.specs.declared.stepwise.Way as ways;
 ghost use Rattle.pl_bounds.specs.Moved.{moved_to};
 ghost use Rattle.pl_bounds.specs.Steps.{moment_along, is_counted, step_by, step_on};
 
