@@ -131,15 +131,21 @@ fn answers_to(
     Ok(answers)
 }
 
-// Asks each question so many times. Answers how many conflicts stand, what was found of the answers, and how many nanoseconds of the
-// processor each of them took.
-fn ask(rt: &impl CpuClock, alloc: Global, board: &mut Board, rounds: u32) -> Result<Found> {
-    if board.spoiled() || 3_999_999_000 < board.next_id() {
-        bail!("the board may not be asked");
-    }
-    let questions = questions_of(alloc, board)?;
-    let nanos = measure(rt, alloc, board, &questions, rounds)?;
-    let answers = answers_to(alloc, board, &questions)?;
+// Asks each of these questions so many times. Answers how many conflicts stand, what was found of the answers, and how many nanoseconds
+// of the processor each of them took.
+fn found_of(
+    rt: &impl CpuClock,
+    alloc: Global,
+    board: &mut Board,
+    questions: &[Question],
+    rounds: u32,
+) -> Result<Found>
+    requires unspoiled { board.old.spoiled ≡ false }
+    requires next { board.old.state.next_id ≤ 3999999000 }
+    requires allowed { All (CanBeAsked board.old.state) questions.now }
+{
+    let nanos = measure(rt, alloc, board, questions, rounds)?;
+    let answers = answers_to(alloc, board, questions)?;
     let tally = tally_of(alloc, board, &answers)?;
     let count = tally.asked.saturating_mul(rounds).max(1);
     Ok(Found {
@@ -147,6 +153,15 @@ fn ask(rt: &impl CpuClock, alloc: Global, board: &mut Board, rounds: u32) -> Res
         tally,
         nanos: nanos / u128::from(count),
     })
+}
+
+// Asks so many times about the moves that may repair the board.
+fn ask(rt: &impl CpuClock, alloc: Global, board: &mut Board, rounds: u32) -> Result<Found> {
+    if board.spoiled() || 3_999_999_000 < board.next_id() {
+        bail!("the board may not be asked");
+    }
+    let questions = questions_of(alloc, board)?;
+    found_of(rt, alloc, board, &questions, rounds)
 }
 
 fn show(rt: &impl Print, live: u32, found: Found, is_timed: bool) -> Result<()> {

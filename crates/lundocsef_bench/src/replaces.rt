@@ -48,23 +48,46 @@ fn measure(
     })
 }
 
-/// Shifts activities of a board with so many groups of eight, and says how many stand, how much is wrong and, if asked, what a shift cost.
-pub fn run(rt: &(impl Print + CpuClock), alloc: Global, count: u32, is_timed: bool) -> Result<()>
-    requires { count ≤ 1000 }
-{
-    let (mut board, groups) = filled(alloc, count)?;
-    let before = board.conflicts().len();
-    let cost = measure(rt, alloc, &mut board, &groups, count)?;
+// Says how many activities stand, and how much is wrong, which is as much as before the shifts or not.
+fn tell_state(rt: &impl Print, board: &Board, before: u32) -> Result<()> {
     let (live, after) = (board.plan().len(), board.conflicts().len());
     let word = if before == after { "as" } else { "NOT as" };
     rt.println(format_args!(
         "board: {live} activities, {after} conflicts, {word} before the shifts"
     ))?;
+    Ok(())
+}
+
+fn tell_cost(rt: &impl Print, cost: Cost) -> Result<()> {
+    let Cost { alone, tree } = cost;
+    rt.println(format_args!(
+        "board: {alone} ns for the shift of one activity, {tree} ns for that of a tree of five"
+    ))?;
+    Ok(())
+}
+
+// Shifts activities of the board, and says what came of it.
+fn shift_on(
+    rt: &(impl Print + CpuClock),
+    alloc: Global,
+    board: &mut Board,
+    groups: &[Group],
+    count: u32,
+    is_timed: bool,
+) -> Result<()> {
+    let before = board.conflicts().len();
+    let cost = measure(rt, alloc, board, groups, count)?;
+    tell_state(rt, board, before)?;
     if is_timed {
-        let Cost { alone, tree } = cost;
-        rt.println(format_args!(
-            "board: {alone} ns for the shift of one activity, {tree} ns for that of a tree of five"
-        ))?;
+        tell_cost(rt, cost)?;
     }
     Ok(())
+}
+
+/// Shifts activities of a board with so many groups of eight, and says how many stand, how much is wrong and, if asked, what a shift cost.
+pub fn run(rt: &(impl Print + CpuClock), alloc: Global, count: u32, is_timed: bool) -> Result<()>
+    requires { count ≤ 1000 }
+{
+    let (mut board, groups) = filled(alloc, count)?;
+    shift_on(rt, alloc, &mut board, &groups, count, is_timed)
 }

@@ -3,3 +3,4 @@ pub mod Summaries
 pub mod Mends
 pub mod Searches
 pub mod RowSums
+pub mod Beginnings

@@ -87,12 +87,3 @@ leaving_later L M s (x ∷ xs) ys none = cases (is_out L M (s +ℤ x.1)) (leavin
         → cond v (Some (x.0, s +ℤ x.1)) (leaving L M (s +ℤ x.1) (xs ++ ys)) ≡ leaving L M (s +ℤ change_of (x ∷ xs)) ys
     cases true more none = absurd (false≢true (sym none))
     cases false more none = more none ∙ ap (λ z. leaving L M z ys) same
-
--- one point more of the least and the greatest sum
-pub low_step : (low s m z r : ℤ) (xs ps : List Point) (p : Point) → xs ≡ p ∷ ps → z ≡ s +ℤ p.1 → m ≡ int_min low z → least_along low s xs ≡ r → least_along m z ps ≡ r
-low_step low s m z r xs ps p cut sum is rest =
-    ap (λ x. least_along x z ps) (is ∙ ap (int_min low) sum) ∙ ap (λ x. least_along (int_min low (s +ℤ p.1)) x ps) sum ∙ sym (ap (least_along low s) cut) ∙ rest
-
-pub high_step : (high s m z r : ℤ) (xs ps : List Point) (p : Point) → xs ≡ p ∷ ps → z ≡ s +ℤ p.1 → m ≡ int_max high z → greatest_along high s xs ≡ r → greatest_along m z ps ≡ r
-high_step high s m z r xs ps p cut sum is rest =
-    ap (λ x. greatest_along x z ps) (is ∙ ap (int_max high) sum) ∙ ap (λ x. greatest_along (int_max high (s +ℤ p.1)) x ps) sum ∙ sym (ap (greatest_along high s) cut) ∙ rest

@@ -1,5 +1,5 @@
 -- Rows of blocks of points.
-use Rattle.std.specs.Prelude.{◌≡◌, ℕ, ◌+◌, ◌-◌, get_or, ◌<◌, ◌≤◌, ◌^◌, Bool, true, ◌&&◌, List, [], ◌∷◌, ◌++◌, length, ℤ, pos, ◌+ℤ◌}
+use Rattle.std.specs.Prelude.{◌≡◌, ℕ, ◌+◌, ◌-◌, get_or, ◌<◌, ◌≤◌, ◌^◌, Bool, true, ◌&&◌, List, [], ◌∷◌, ◌++◌, length, take, ℤ, pos, ◌+ℤ◌}
 use Rattle.std.specs.Int.{int_min, int_max}
 use Rattle.pl_lists.specs.Lists.{back}
 use Rattle.pl_points.specs.Sums.{total}
@@ -48,8 +48,16 @@ least_sum ps = least_along (first_delta ps) (pos 0) ps
 abbrev pub greatest_sum : List Point → ℤ
 greatest_sum ps = greatest_along (first_delta ps) (pos 0) ps
 
--- a block of 1 to 64 points, with its last moment, its sum and the least and greatest sum of its fronts
-pub record IsBlock (ps : List Point) (last : ℕ) (sum least greatest : ℤ) : Type 0 where
+-- of points the first ones, so many and at least one: their sum, and the least and greatest sum of their fronts
+pub record AreSums (ps : List Point) (count : ℕ) (sum least greatest : ℤ) : Type 0 where
+  pub one : 0 < count
+  pub bound : count ≤ length ps
+  pub adds_up : sum ≡ change_of (take count ps)
+  pub lowest : least ≡ least_sum (take count ps)
+  pub highest : greatest ≡ greatest_sum (take count ps)
+
+-- a block of 1 to 64 points, with its last moment, its sum and the least and greatest sum of its fronts, and with these of its first `count` points
+pub record IsBlock (ps : List Point) (last : ℕ) (sum least greatest : ℤ) (count : ℕ) (sum' least' greatest' : ℤ) : Type 0 where
   pub some : 0 < length ps
   pub few : length ps ≤ 64
   pub rising : RiseFrom 0 ps
@@ -58,6 +66,7 @@ pub record IsBlock (ps : List Point) (last : ℕ) (sum least greatest : ℤ) : T
   pub adds_up : sum ≡ change_of ps
   pub lowest : least ≡ least_sum ps
   pub highest : greatest ≡ greatest_sum ps
+  pub early : AreSums ps count sum' least' greatest'
 
 -- each block holds 1 to 64 points
 abbrev pub AreSized : List (List Point) → Type 0

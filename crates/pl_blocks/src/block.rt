@@ -4,25 +4,21 @@ ghost use Rattle.pl_points.specs.Points.{is_before, sum_below, first_from, leavi
 ghost use Rattle.pl_points.specs.Points.{RiseFrom, AreNear, IsNear, SmallFrom};
 ghost use Rattle.pl_blocks.specs.Blocks.{is_past, change_of, least_sum, greatest_sum};
 
+use crate::summary::{
+    Summary, Sums, kept_or_first, lie_before, summary_of, sums_of_first, sums_up_to,
+};
 use pl_lists::Copied;
 use pl_points::{Ledger, Steps, leaving, merge};
 use std::alloc::{AllocError, Global};
 use std::marker::Model;
 
-/// What searches ask of points: the last moment, their sum and the least and greatest sum of their fronts.
-#[derive(Clone, Copy, Debug)]
-pub(crate) struct Summary {
-    last: u32,
-    sum: i64,
-    least: i64,
-    greatest: i64,
-}
-
-/// From 1 to 64 points, with their summary.
+/// From 1 to 64 points, with their summary, and with that of the first of them: where only later
+/// points change, the new summary begins there.
 #[derive(Drop)]
 pub(crate) struct Block {
     points: Vec<(u32, i64)>,
     summary: Summary,
+    early: Sums,
 }
 
 impl Model for Block {
@@ -33,36 +29,7 @@ impl Model for Block {
 
     ghost view = { λ b. b.points.items };
 
-    ghost invariant = { λ b. IsBlock b.points.items b.summary.last b.summary.sum b.summary.least b.summary.greatest };
-}
-
-fn summary_of<L: Ledger>(points: &[(u32, i64)], steps: &mut Steps<L>) -> Summary
-    requires some { 0 < length points.now }
-    requires near { AreNear (pos 0) points.now }
-    ensures ends { result.last ≡ (get_or points.now (length points.now - 1) (0, pos 0)).0 }
-    ensures adds_up { result.sum ≡ change_of points.now }
-    ensures lowest { result.least ≡ least_sum points.now }
-    ensures highest { result.greatest ≡ greatest_sum points.now }
-    ensures more { steps.old ≤ steps.new }
-    ensures cost { steps.new ≤ steps.old + length points.now }
-{
-    let last = points[points.len() - 1].0;
-    let first = points[0].1;
-    let mut sum: i64 = 0;
-    let mut least = first;
-    let mut greatest = first;
-    for point in points {
-        steps.tick();
-        sum += point.1;
-        least = least.min(sum);
-        greatest = greatest.max(sum);
-    }
-    Summary {
-        last,
-        sum,
-        least,
-        greatest,
-    }
+    ghost invariant = { λ b. IsBlock b.points.items b.summary.last b.summary.sum b.summary.least b.summary.greatest b.early.count b.early.sum b.early.least b.early.greatest };
 }
 
 impl Block {
@@ -75,8 +42,13 @@ impl Block {
         ensures more { steps.old ≤ steps.new }
         ensures cost { steps.new ≤ steps.old + length points.items }
     {
-        let summary = summary_of(&points, steps);
-        Block { points, summary }
+        let early = sums_of_first(&points);
+        let summary = summary_of(&points, early, steps);
+        Block {
+            points,
+            summary,
+            early,
+        }
     }
 
     pub(crate) fn points(&self) -> &[(u32, i64)]
@@ -206,8 +178,12 @@ impl Block {
         ensures more { steps.old ≤ steps.new }
         ensures cost { steps.new ≤ steps.old + 64 }
     {
+        let keeps = lie_before(&self.points, self.early.count, at);
         merge(&mut self.points, at, delta)?;
-        self.summary = summary_of(&self.points, steps);
+        let kept = kept_or_first(&self.points, self.early, keeps);
+        let early = sums_up_to(&self.points, kept, at, steps);
+        self.summary = summary_of(&self.points, early, steps);
+        self.early = early;
         Ok(())
     }
 }
@@ -217,6 +193,7 @@ impl Copied for Block {
         Ok(Block {
             points: Vec::from_slice(alloc, self.points.as_slice())?,
             summary: self.summary,
+            early: self.early,
         })
     }
 }

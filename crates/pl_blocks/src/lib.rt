@@ -7,6 +7,7 @@ mod finding;
 mod laws;
 mod mending;
 mod sharing;
+mod summary;
 mod summing;
 
 pub use blocks::BlockPoints;

@@ -8,7 +8,6 @@ mod laws;
 mod reply;
 mod sending;
 mod sharing;
-mod since;
 
 pub use entry::Entry;
 pub use event::{Bytes, Event};
@@ -17,4 +16,3 @@ pub use laws::{laws_of_due, laws_of_horizon};
 pub use reply::{Reason, Reply, Values};
 pub use sending::due;
 pub use sharing::shared_types;
-pub use since::due_since_among;

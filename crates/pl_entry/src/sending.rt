@@ -9,7 +9,7 @@ use pl_plan::{Activity, Plan};
 use std::alloc::{AllocError, Global};
 use std::collections::BTreeSet;
 
-pub(crate) fn is_due(model: &Model, activity: &Activity, now: u32, c: u32) -> bool
+fn is_due(model: &Model, activity: &Activity, now: u32, c: u32) -> bool
     requires { activity.now.kind < length model.now.kinds }
     ensures { result ≡ is_due model.now now c activity.now }
 {
@@ -51,7 +51,7 @@ fn due_starts(
     Ok(starts)
 }
 
-pub(crate) fn ids_in(alloc: Global, starts: &BTreeSet<(u32, u32)>) -> Result<Vec<u32>, AllocError>
+fn ids_in(alloc: Global, starts: &BTreeSet<(u32, u32)>) -> Result<Vec<u32>, AllocError>
     ensures { IfOk result (λ ids. ids.items ≡ map (λ s. s.1) starts.now.keys) }
 {
     let mut ids = Vec::new(alloc);

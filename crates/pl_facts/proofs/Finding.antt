@@ -16,6 +16,11 @@ none_or_some (Some x) = inr refl
 pub long : {X : Type 0} (p : X → Bool) (xs : List X) → position p xs ≡ None → length xs ≤ position_or_len p xs
 long p xs e = cond_both (nat_lt (position_or_len p xs) (length xs)) (Some (position_or_len p xs)) None (λ o. o ≡ None → length xs ≤ position_or_len p xs) (λ t h. absurd (cc)) (λ f h. ltb-false _ _ f) e
 
+-- what is found has a place in the list
+pub within_list : {X : Type 0} (p : X → Bool) (xs : List X) (i : ℕ) → position p xs ≡ Some i → i < length xs
+within_list p xs i e = cond_both (nat_lt (position_or_len p xs) (length xs)) (Some (position_or_len p xs)) None (λ o. o ≡ Some i → i < length xs)
+    (λ t h. let same : position_or_len p xs ≡ i = cc in let below : position_or_len p xs < length xs = ltb-true _ _ t in omega (arith, same, below)) (λ f h. absurd (cc)) e
+
 pub none_passes : {X : Type 0} (p : X → Bool) (xs : List X) → position p xs ≡ None → (k : ℕ) (d : X) → k < length xs → p (get_or xs k d) ≡ false
 none_passes p xs e k d h =
     let all : length xs ≤ position_or_len p xs = long p xs e in

@@ -6,10 +6,11 @@ use Rattle.std.proofs.lemmas.List.{same_lists, length-map, length-set, get_or-ma
 use Rattle.std.proofs.lemmas.List.Quantifiers.{position-Some, all_pairs_push}
 use Rattle.std.specs.declared.cmp.Ordering.TheVariants.{Less, Equal, Greater}
 use Rattle.std.specs.Ordering.{nat_cmp, is_eq}
-use Rattle.std.specs.BTreeMap.{BTreeMap, get, is_at, Updates}
+use Rattle.std.specs.declared.cmp.Reverse.{Reverse}
+use Rattle.std.specs.BTreeMap.{BTreeMap, get, Updates}
 use Rattle.pl_facts.specs.declared.goal.Goal.{Goal}
 use Rattle.pl_facts.specs.Goals.{is_numbered, goal_of, with_dropped, AreDistinct}
-use Rattle.pl_facts.specs.Places.{AreIndexed}
+use Rattle.pl_facts.specs.Places.{AreIndexed, down}
 use Rattle.pl_facts.proofs.Finding.{none_passes, none_or_some, find_fails, find-None, find-Some, position-None, position-push_here, position-push_past, position-set}
 
 pub absent : (n : ℕ) (goals : List Goal) → position (is_numbered n) goals ≡ None → (k : ℕ) (d : Goal) → k < length goals → (get_or goals k d).number ≢ n
@@ -60,21 +61,21 @@ goal_of-before goals i g distinct within here = find_fails (is_numbered g.number
 
 -- ---- the places after a change
 
-past : (n q : ℕ) → n ≢ q → is_at (nat_cmp n) q ≡ false
-past n q ne = cond_both (nat_lt n q) Less (cond (n == q) Equal Greater) (λ o. is_eq o ≡ false) (λ _. refl) (λ _. rw (ne_eqb n q ne) refl)
+past : (n q : ℕ) → n ≢ q → is_eq (nat_cmp q n) ≡ false
+past n q ne = cond_both (nat_lt q n) Less (cond (q == n) Equal Greater) (λ o. is_eq o ≡ false) (λ _. refl) (λ _. rw (ne_eqb q n (λ same. ne (sym same))) refl)
 
-pub indexed_push : (old new : BTreeMap ℕ ℕ) (goals : List Goal) (goal : Goal) → AreIndexed old goals → goal_of goal.number goals ≡ None → Updates nat_cmp old new goal.number (Some (length goals)) → AreIndexed new (goals ++ goal ∷ [])
+pub indexed_push : (old new : BTreeMap (Reverse ℕ) ℕ) (goals : List Goal) (goal : Goal) → AreIndexed old goals → goal_of goal.number goals ≡ None → Updates down old new (record { 0 = goal.number }) (Some (length goals)) → AreIndexed new (goals ++ goal ∷ [])
 indexed_push old new goals goal before none updates =
     let gone : position (is_numbered goal.number) goals ≡ None = position-None (is_numbered goal.number) goals none in
     record {
       distinct = all_pairs_push (λ (one other : Goal). one.number ≢ other.number) goals goal before.distinct (absent goal.number goals gone);
       placed = λ q. ⊎_elim
-          (λ (same : goal.number ≡ q). subst (λ (x : ℕ). get nat_cmp new x ≡ position (is_numbered x) (goals ++ goal ∷ [])) same (updates.1 ∙ sym (position-push_here (is_numbered goal.number) goals goal gone (eq-eqb _ _ refl))))
-          (λ (ne : goal.number ≢ q). updates.2 q (past goal.number q ne) ∙ before.placed q ∙ sym (position-push_past (is_numbered q) goals goal (ne_eqb _ _ ne)))
+          (λ (same : goal.number ≡ q). subst (λ (x : ℕ). get down new (record { 0 = x }) ≡ position (is_numbered x) (goals ++ goal ∷ [])) same (updates.1 ∙ sym (position-push_here (is_numbered goal.number) goals goal gone (eq-eqb _ _ refl))))
+          (λ (ne : goal.number ≢ q). updates.2 (record { 0 = q }) (past goal.number q ne) ∙ before.placed q ∙ sym (position-push_past (is_numbered q) goals goal (ne_eqb _ _ ne)))
           (cases_eq goal.number q);
     }
 
-pub indexed_set : (places : BTreeMap ℕ ℕ) (goals : List Goal) (i : ℕ) (g h : Goal) → AreIndexed places goals → i < length goals → g ≡ get_or goals i g → h.number ≡ g.number → AreIndexed places (set goals i h)
+pub indexed_set : (places : BTreeMap (Reverse ℕ) ℕ) (goals : List Goal) (i : ℕ) (g h : Goal) → AreIndexed places goals → i < length goals → g ≡ get_or goals i g → h.number ≡ g.number → AreIndexed places (set goals i h)
 indexed_set places goals i g h before within here same =
     record {
       distinct = λ j k d lt below e. before.distinct j k d lt (rw length-set at below) (sym (kept j d) ∙ e ∙ kept k d);

@@ -5,6 +5,7 @@ ghost use Rattle.pl_facts.specs.Goals.{AreDistinct, goal_of, with_dropped};
 use crate::goal::Goal;
 use pl_lists::Copied;
 use std::alloc::{AllocError, Global};
+use std::cmp::Reverse;
 use std::collections::BTreeMap;
 use std::marker::Model;
 
@@ -12,8 +13,8 @@ use std::marker::Model;
 #[derive(Drop)]
 pub struct Goals {
     goals: Vec<Goal>,
-    // The place of each goal by its number.
-    places: BTreeMap<u32, usize>,
+    // The place of each goal by its number, from the greatest down: a map is searched from its front, and most look-ups are for new goals.
+    places: BTreeMap<Reverse<u32>, usize>,
 }
 
 impl Model for Goals {
@@ -46,7 +47,7 @@ impl Goals {
         ensures err { OnErr result (self.new ≡ self.old) }
     {
         self.goals.reserve(1)?;
-        self.places.insert(goal.number, self.goals.len())?;
+        self.places.insert(Reverse(goal.number), self.goals.len())?;
         self.goals.push(goal).unwrap();
         Ok(())
     }
@@ -57,7 +58,7 @@ impl Goals {
         ensures none { IsNone result ↔ All (λ g. g.number ≢ number) self.now }
         ensures some { IfSome result (λ g. Contains self.now g.now × (g.now.number ≡ number)) }
     {
-        let place = self.places.get(&number)?;
+        let place = self.places.get(&Reverse(number))?;
         Some(&self.goals[*place])
     }
 
@@ -66,7 +67,7 @@ impl Goals {
         requires { IsSome (goal_of number self.old) }
         ensures { self.new ≡ with_dropped number self.old }
     {
-        let place = self.places[&number];
+        let place = self.places[&Reverse(number)];
         self.goals[place].dropped = true;
     }
 

@@ -87,7 +87,7 @@ nearer_low moment next start true true e f = rw (e, f) (inr (omega arith), (let 
 nearer_low moment next start true false e f = rw (e, f) (inr (ltb-false start next f), omega arith)
 nearer_low moment next start false b e f = rw e (inl (ltb-false moment start e), omega arith)
 
-next_low : (moment next : ℕ) (xs : List Activity) → next_start moment next xs ≤ next
+pub next_low : (moment next : ℕ) (xs : List Activity) → next_start moment next xs ≤ next
 next_low moment next [] = omega arith
 next_low moment next (a ∷ more) =
     let rest = next_low moment (nearer moment next a.start) more in

@@ -12,6 +12,7 @@ use Rattle.pl_entry.specs.declared.reply.Reply.TheVariants as reply
 use Rattle.pl_entry.specs.declared.entry.Entry.{Entry}
 use Rattle.pl_model.specs.declared.whole.Model.{Model}
 use Rattle.pl_machine.specs.declared.ahead.Ahead.{Ahead}
+use Rattle.pl_machine.specs.declared.id_range.IdRange.{IdRange}
 use Rattle.pl_machine.specs.World.{World, fresh_world}
 use Rattle.pl_machine.specs.Step.{is_enabled, reply_of, after_input, after_fix, after_commit, after_dispatch, after}
 use Rattle.pl_machine.specs.Sound.{IsSound}
@@ -63,5 +64,5 @@ world_goes m [] legal = absurd legal
 world_goes m (first ∷ es) legal = opened_goes m (options_in first.event) first.reply es legal
 
 -- also where memory was wanting: the plan state is no part of it
-pub sound_goes : {spoiled : Bool} {m : Model} {log : List Entry} {w : World} {due : List ℕ} {sent : ℕ} {ahead : Ahead} → IsSound spoiled m log w due sent ahead → w.closed ≡ false → w.done ≡ false
+pub sound_goes : {spoiled : Bool} {m : Model} {log : List Entry} {w : World} {due : List ℕ} {sent : ℕ} {ahead : Ahead} {ranges : List IdRange} → IsSound spoiled m log w due sent ahead ranges → w.closed ≡ false → w.done ≡ false
 sound_goes {spoiled} {m} {log} {w} sound = subst Goes (sym sound.others) (world_goes m log sound.legal)

@@ -23,6 +23,11 @@ pub mod Mending
 pub mod Starts
 mod Ticking
 pub mod Calm
+pub mod IdRanges
+pub mod Looking
+pub mod InOrder
+pub mod Places
+pub mod Due
 mod Settled
 mod Mended
 pub mod ShortLogs

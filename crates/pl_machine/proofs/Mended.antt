@@ -17,6 +17,7 @@ use Rattle.pl_cand.specs.declared.proposal.Proposal.{Proposal}
 use Rattle.pl_cand.specs.Proposals.{IsProposal, mended}
 use Rattle.pl_cand.proofs.Proposed.{proposed_proper, proposed_allowed}
 use Rattle.pl_machine.specs.declared.ahead.Ahead.{Ahead}
+use Rattle.pl_machine.specs.declared.id_range.IdRange.{IdRange}
 use Rattle.pl_machine.specs.declared.round.Round.{Round}
 use Rattle.pl_machine.specs.declared.change.Change.TheVariants.{Repair}
 use Rattle.pl_machine.specs.World.{due_in, plain_reason_of}
@@ -54,9 +55,9 @@ keeps_proposed s p whole legal = keeps s p.mv whole (proposed_proper s p legal) 
 abbrev turned : Round → Round
 turned r = record r { turn = r.turn + 1; held = false }
 
-module _ (s : State) {m : Model} {log : List Entry} {o : Options} {due : List ℕ} {sent : ℕ} {ahead : Ahead} {done : Bool} (round : Round) (before : Standing)
+module _ (s : State) {m : Model} {log : List Entry} {o : Options} {due : List ℕ} {sent : ℕ} {ahead : Ahead} {open_ids : List IdRange} {done : Bool} (round : Round) (before : Standing)
     (is : record { spoiled = before.spoiled; model = m; log = log; world = record { state = before.state; options = o; dispatched = take sent due; turn = round.turn; rested = round.rested; held = round.held; closed = round.closed; done = done; halted = round.halted } } ≡ s)
-    (sound : IsSound before.spoiled m log (record { state = before.state; options = o; dispatched = take sent due; turn = round.turn; rested = round.rested; held = round.held; closed = round.closed; done = done; halted = round.halted }) due sent ahead)
+    (sound : IsSound before.spoiled m log (record { state = before.state; options = o; dispatched = take sent due; turn = round.turn; rested = round.rested; held = round.held; closed = round.closed; done = done; halted = round.halted }) due sent ahead open_ids)
     (goes : GoesOn s) (whole : IsWhole s.world.state) (few : s.world.state.next_id ≤ 3999999000) where
   unspoiled : before.spoiled ≡ false
   unspoiled = ap (λ (t : State). t.spoiled) is ∙ goes.unspoiled
@@ -98,9 +99,9 @@ module _ (s : State) {m : Model} {log : List Entry} {o : Options} {due : List �
     listed : due ≡ due_in (applied before.state p.mv)
     listed = (sound.stands unspoiled).listed ∙ sym (due_applied before.state p.mv whole_before proper allowed)
 
-    looked : IsAhead (applied before.state p.mv) (ahead_after (Repair p.mv) ahead)
+    looked : IsAhead (applied before.state p.mv) (ahead_after (Repair p.mv) ahead) open_ids
     looked =
-        ahead_still before.state (Repair p.mv) ahead refl whole_before (proper, allowed, subst (λ (b : PlanState). b.next_id ≤ 3999999000) (sym seen) few)
+        ahead_still before.state (Repair p.mv) ahead open_ids refl whole_before (proper, allowed, subst (λ (b : PlanState). b.next_id ≤ 3999999000) (sym seen) few)
         (sound.stands unspoiled).looked
 
     fits : IsConflictInRange p.conflict × FitsTypes p.mv → IsEventInRange s.model (event.Fix p.conflict p.mv)
@@ -110,9 +111,9 @@ module _ (s : State) {m : Model} {log : List Entry} {o : Options} {due : List �
         (ranges.0, in_range s.model p.mv (proposed_move s.model before.state (Some p) checked model legal) ranges.1)
 
     sound_mended : IsConflictInRange p.conflict × FitsTypes p.mv
-        → IsSound false m (logged (Some p) log) (record { state = applied before.state p.mv; options = o; dispatched = take sent due; turn = round.turn + 1; rested = round.rested; held = false; closed = round.closed; done = done; halted = round.halted }) due sent (ahead_after (Repair p.mv) ahead)
+        → IsSound false m (logged (Some p) log) (record { state = applied before.state p.mv; options = o; dispatched = take sent due; turn = round.turn + 1; rested = round.rested; held = false; closed = round.closed; done = done; halted = round.halted }) due sent (ahead_after (Repair p.mv) ahead) open_ids
     sound_mended ranges =
-        sound_carried s false (turned round) (applied before.state p.mv) due (ahead_after (Repair p.mv) ahead) (Repair p.mv) (event.Fix p.conflict p.mv) is sound refl may (fits ranges) tt answers kept listed looked refl leaves turn
+        sound_carried s false (turned round) (applied before.state p.mv) due (ahead_after (Repair p.mv) ahead) open_ids (Repair p.mv) (event.Fix p.conflict p.mv) is sound refl may (fits ranges) tt answers kept listed looked refl leaves turn
 
     took_mended : IsOpen s (event.Fix p.conflict p.mv)
         × Takes s (event.Fix p.conflict p.mv) reply.Done (record { spoiled = false; model = m; log = logged (Some p) log; world = record { state = applied before.state p.mv; options = o; dispatched = take sent due; turn = round.turn + 1; rested = round.rested; held = false; closed = round.closed; done = done; halted = round.halted } })
@@ -122,11 +123,11 @@ module _ (s : State) {m : Model} {log : List Entry} {o : Options} {due : List �
 
   module _ (next : Option Proposal) (now : Standing) (log2 : List Entry) (ahead2 : Ahead) (made : now ≡ mended next before) (entry : log2 ≡ logged next log) (further : ahead2 ≡ ahead_behind next ahead) where
     pub sound_none : next ≡ None
-        → IsSound now.spoiled m log2 (record { state = now.state; options = o; dispatched = take sent due; turn = round.turn; rested = round.rested; held = round.held; closed = round.closed; done = done; halted = round.halted }) due sent ahead2
+        → IsSound now.spoiled m log2 (record { state = now.state; options = o; dispatched = take sent due; turn = round.turn; rested = round.rested; held = round.held; closed = round.closed; done = done; halted = round.halted }) due sent ahead2 open_ids
     sound_none none = by next none made entry further
       where
         by : (n : Option Proposal) → n ≡ None → now ≡ mended n before → log2 ≡ logged n log → ahead2 ≡ ahead_behind n ahead
-            → IsSound now.spoiled m log2 (record { state = now.state; options = o; dispatched = take sent due; turn = round.turn; rested = round.rested; held = round.held; closed = round.closed; done = done; halted = round.halted }) due sent ahead2
+            → IsSound now.spoiled m log2 (record { state = now.state; options = o; dispatched = take sent due; turn = round.turn; rested = round.rested; held = round.held; closed = round.closed; done = done; halted = round.halted }) due sent ahead2 open_ids
         by None e f g h = rw (f, g, h) sound
         by (Some p) e f g h = absurd (cc)
 
@@ -153,7 +154,7 @@ module _ (s : State) {m : Model} {log : List Entry} {o : Options} {due : List �
       further_some = further ∙ ap (λ (n : Option Proposal). ahead_behind n ahead) some
 
       pub sound_some : IfSome next (λ q. IsConflictInRange q.conflict × FitsTypes q.mv)
-          → IsSound now.spoiled m log2 (record { state = now.state; options = o; dispatched = take sent due; turn = round2.turn; rested = round2.rested; held = round2.held; closed = round2.closed; done = done; halted = round2.halted }) due sent ahead2
+          → IsSound now.spoiled m log2 (record { state = now.state; options = o; dispatched = take sent due; turn = round2.turn; rested = round2.rested; held = round2.held; closed = round2.closed; done = done; halted = round2.halted }) due sent ahead2 open_ids
       sound_some ranges =
           let P : Option Proposal → Type 0 = λ n. IfSome n (λ q. IsConflictInRange q.conflict × FitsTypes q.mv) in
           rw (made_some, entry_some, further_some, turns) (sound_mended p legal_some (subst P some ranges))

@@ -16,6 +16,7 @@ use Rattle.pl_machine.specs.Step.{after, reply_of}
 use Rattle.pl_machine.specs.Legal.{MayFollow, legal_from, world_from, opening, options_in, IsOpenedRun, Legal, no_options, options_of, world_of, IsHistory}
 use Rattle.pl_machine.specs.Keeping.{AreSendable, KeepsStanding}
 use Rattle.pl_machine.specs.declared.ahead.Ahead.{Ahead}
+use Rattle.pl_machine.specs.declared.id_range.IdRange.{IdRange}
 use Rattle.pl_machine.specs.Calm.{IsAhead}
 use Rattle.pl_machine.specs.Sound.{State, IsSound}
 use Rattle.pl_entry.specs.declared.reply.Reply.TheVariants as reply
@@ -61,11 +62,11 @@ options_of_push m [] e legal = absurd legal
 options_of_push m (first ∷ es) e legal = refl
 
 -- what a step leaves of a standing machine
-pub record StandsOn (w w2 : World) (due2 : List ℕ) (sent2 : ℕ) (ahead2 : Ahead) : Type 0 where
+pub record StandsOn (w w2 : World) (due2 : List ℕ) (sent2 : ℕ) (ahead2 : Ahead) (ranges2 : List IdRange) : Type 0 where
   pub options : w2.options ≡ w.options
   pub model : w2.state.model ≡ w.state.model
   pub due : due2 ≡ due_in w2.state
-  pub looked : IsAhead w2.state ahead2
+  pub looked : IsAhead w2.state ahead2 ranges2
   pub sent : sent2 ≤ length due2
   pub turn : w2.turn ≤ w2.options.turns
   pub sendable : AreSendable w2.state
@@ -74,10 +75,10 @@ pub record StandsOn (w w2 : World) (due2 : List ℕ) (sent2 : ℕ) (ahead2 : Ahe
 other_parts : (w v : World) → w ≡ v → w ≡ record v { state = w.state }
 other_parts w v e = subst (λ (u : World). w ≡ record u { state = w.state }) e refl
 
-pub sound_push : {spoiled : Bool} {m : Model} {log : List Entry} {w : World} {due : List ℕ} {sent : ℕ} {ahead : Ahead} (spoiled2 : Bool) (w2 : World) (due2 : List ℕ) (sent2 : ℕ) (ahead2 : Ahead) (e : Entry)
-    → IsSound spoiled m log w due sent ahead → spoiled ≡ false → MayFollow w e → length log < w.options.entries
-    → w2 ≡ after w e.event → StandsOn w w2 due2 sent2 ahead2 → IsSound spoiled2 m (log ++ e ∷ []) w2 due2 sent2 ahead2
-sound_push {spoiled} {m} {log} {w} spoiled2 w2 due2 sent2 ahead2 e sound unspoiled follows room leaves on =
+pub sound_push : {spoiled : Bool} {m : Model} {log : List Entry} {w : World} {due : List ℕ} {sent : ℕ} {ahead : Ahead} {ranges : List IdRange} (spoiled2 : Bool) (w2 : World) (due2 : List ℕ) (sent2 : ℕ) (ahead2 : Ahead) (ranges2 : List IdRange) (e : Entry)
+    → IsSound spoiled m log w due sent ahead ranges → spoiled ≡ false → MayFollow w e → length log < w.options.entries
+    → w2 ≡ after w e.event → StandsOn w w2 due2 sent2 ahead2 ranges2 → IsSound spoiled2 m (log ++ e ∷ []) w2 due2 sent2 ahead2 ranges2
+sound_push {spoiled} {m} {log} {w} spoiled2 w2 due2 sent2 ahead2 ranges2 e sound unspoiled follows room leaves on =
     let standing = sound.stands unspoiled in
     let follows2 : MayFollow (world_of m log) e = subst (λ (v : World). MayFollow v e) standing.world follows in
     let legal : Legal m (log ++ e ∷ []) = legal_push m log e sound.legal follows2 (rw sound.options room) in
@@ -101,7 +102,7 @@ sound_push {spoiled} {m} {log} {w} spoiled2 w2 due2 sent2 ahead2 e sound unspoil
       };
     }
 
-pub sound_fresh : (m : Model) (o : Options) → IsChecked m → AreOptions o → IsSound false m (opening o ∷ []) (fresh_world m o) [] 0 (record { next_start = 0; settled = 0 })
+pub sound_fresh : (m : Model) (o : Options) → IsChecked m → AreOptions o → IsSound false m (opening o ∷ []) (fresh_world m o) [] 0 (record { next_start = 0; seen = 0 }) []
 unfolding world_of due_of
 sound_fresh m o checked fit = record {
   checked = checked;
@@ -116,15 +117,15 @@ sound_fresh m o checked fit = record {
     model = refl;
     world = refl;
     listed = refl;
-    looked = record { calm = All-nil _; settled = record { few = omega arith; each = All-nil _ } };
+    looked = record { calm = All-nil _; known = All-nil _; order = omega arith; seen = omega arith };
     sendable = λ id a here _. absurd (cc);
     next_id = omega arith;
   };
 }
 
 -- where memory was wanting
-pub sound_spoiled : {spoiled : Bool} {m : Model} {log : List Entry} {w : World} {due : List ℕ} {sent : ℕ} {ahead ahead2 : Ahead} (spoiled2 : Bool) (s2 : PlanState)
-    → IsSound spoiled m log w due sent ahead → spoiled2 ≡ true → IsSound spoiled2 m log (record w { state = s2 }) due sent ahead2
+pub sound_spoiled : {spoiled : Bool} {m : Model} {log : List Entry} {w : World} {due : List ℕ} {sent : ℕ} {ahead ahead2 : Ahead} {ranges ranges2 : List IdRange} (spoiled2 : Bool) (s2 : PlanState)
+    → IsSound spoiled m log w due sent ahead ranges → spoiled2 ≡ true → IsSound spoiled2 m log (record w { state = s2 }) due sent ahead2 ranges2
 sound_spoiled {spoiled} {m} {log} {w} spoiled2 s2 sound is = record {
   checked = sound.checked;
   legal = sound.legal;
@@ -138,11 +139,11 @@ sound_spoiled {spoiled} {m} {log} {w} spoiled2 s2 sound is = record {
 }
 
 -- The same, in the words of a machine that is seen as s.
-pub sound_step : (s : State) {spoiled : Bool} {m : Model} {log : List Entry} {w : World} {due : List ℕ} {sent : ℕ} {ahead : Ahead} (spoiled2 : Bool) (w2 : World) (due2 : List ℕ) (sent2 : ℕ) (ahead2 : Ahead) (happened : Event) (answer : Reply)
-    → record { spoiled = spoiled; model = m; log = log; world = w } ≡ s → IsSound spoiled m log w due sent ahead → IsOpen s happened
-    → IsEventInRange s.model happened → IsReplyTo s.model happened answer → answer ≡ reply_of s.world happened → w2 ≡ after s.world happened → StandsOn w w2 due2 sent2 ahead2
-    → IsSound spoiled2 m (log ++ record { event = happened; reply = answer } ∷ []) w2 due2 sent2 ahead2
-sound_step s {spoiled} {m} {log} {w} {due} {sent} spoiled2 w2 due2 sent2 ahead2 happened answer is sound may in_range replies answers leaves on =
+pub sound_step : (s : State) {spoiled : Bool} {m : Model} {log : List Entry} {w : World} {due : List ℕ} {sent : ℕ} {ahead : Ahead} {ranges : List IdRange} (spoiled2 : Bool) (w2 : World) (due2 : List ℕ) (sent2 : ℕ) (ahead2 : Ahead) (ranges2 : List IdRange) (happened : Event) (answer : Reply)
+    → record { spoiled = spoiled; model = m; log = log; world = w } ≡ s → IsSound spoiled m log w due sent ahead ranges → IsOpen s happened
+    → IsEventInRange s.model happened → IsReplyTo s.model happened answer → answer ≡ reply_of s.world happened → w2 ≡ after s.world happened → StandsOn w w2 due2 sent2 ahead2 ranges2
+    → IsSound spoiled2 m (log ++ record { event = happened; reply = answer } ∷ []) w2 due2 sent2 ahead2 ranges2
+sound_step s {spoiled} {m} {log} {w} {due} {sent} spoiled2 w2 due2 sent2 ahead2 ranges2 happened answer is sound may in_range replies answers leaves on =
     let unspoiled : spoiled ≡ false = ap (λ (t : State). t.spoiled) is ∙ may.unspoiled in
     let same : w ≡ s.world = ap (λ (t : State). t.world) is in
     let model : w.state.model ≡ s.model = (sound.stands unspoiled).model ∙ ap (λ (t : State). t.model) is in
@@ -153,18 +154,18 @@ sound_step s {spoiled} {m} {log} {w} {due} {sent} spoiled2 w2 due2 sent2 ahead2 
       enabled = rw same may.enabled;
       answers = rw same answers;
     } in
-    sound_push spoiled2 w2 due2 sent2 ahead2 (record { event = happened; reply = answer }) sound unspoiled follows room (leaves ∙ ap (λ (v : World). after v happened) (sym same)) on
+    sound_push spoiled2 w2 due2 sent2 ahead2 ranges2 (record { event = happened; reply = answer }) sound unspoiled follows room (leaves ∙ ap (λ (v : World). after v happened) (sym same)) on
 
 -- an event that leaves the plan state and what was sent
-pub sound_same : (s : State) {spoiled : Bool} {m : Model} {log : List Entry} {w : World} {due : List ℕ} {sent : ℕ} {ahead : Ahead} (spoiled2 : Bool) (w2 : World) (happened : Event) (answer : Reply)
-    → record { spoiled = spoiled; model = m; log = log; world = w } ≡ s → IsSound spoiled m log w due sent ahead → IsOpen s happened
+pub sound_same : (s : State) {spoiled : Bool} {m : Model} {log : List Entry} {w : World} {due : List ℕ} {sent : ℕ} {ahead : Ahead} {ranges : List IdRange} (spoiled2 : Bool) (w2 : World) (happened : Event) (answer : Reply)
+    → record { spoiled = spoiled; model = m; log = log; world = w } ≡ s → IsSound spoiled m log w due sent ahead ranges → IsOpen s happened
     → IsEventInRange s.model happened → IsReplyTo s.model happened answer → answer ≡ reply_of s.world happened → w2 ≡ after s.world happened
     → w2.state ≡ w.state → w2.options ≡ w.options → w2.turn ≤ w2.options.turns
-    → IsSound spoiled2 m (log ++ record { event = happened; reply = answer } ∷ []) w2 due sent ahead
-sound_same s {spoiled} {m} {log} {w} {due} {sent} {ahead} spoiled2 w2 happened answer is sound may in_range replies answers leaves state options turn =
+    → IsSound spoiled2 m (log ++ record { event = happened; reply = answer } ∷ []) w2 due sent ahead ranges
+sound_same s {spoiled} {m} {log} {w} {due} {sent} {ahead} {ranges} spoiled2 w2 happened answer is sound may in_range replies answers leaves state options turn =
     let unspoiled : spoiled ≡ false = ap (λ (t : State). t.spoiled) is ∙ may.unspoiled in
     let standing = sound.stands unspoiled in
-    sound_step s spoiled2 w2 due sent ahead happened answer is sound may in_range replies answers leaves (record {
+    sound_step s spoiled2 w2 due sent ahead ranges happened answer is sound may in_range replies answers leaves (record {
       options = options;
       model = ap (λ (t : PlanState). t.model) state;
       due = standing.listed ∙ ap due_in (sym state);
@@ -183,12 +184,12 @@ sent_stays w {s2} due due2 sent is le keeps is2 =
     ap (take sent) (is2 ∙ keeps.due.1 ∙ ap (λ xs. xs ++ keeps.due.0) (sym is)) ∙ front_stays sent due keeps.due.0 le
 
 -- an event that changes the plan state
-pub sound_changed : (s : State) {spoiled : Bool} {m : Model} {log : List Entry} {w : World} {due : List ℕ} {sent : ℕ} {ahead : Ahead} (spoiled2 : Bool) (round : Round) (s2 : PlanState) (due2 : List ℕ) (ahead2 : Ahead) (happened : Event)
-    → record { spoiled = spoiled; model = m; log = log; world = w } ≡ s → IsSound spoiled m log w due sent ahead → w.dispatched ≡ take sent due → IsOpen s happened
+pub sound_changed : (s : State) {spoiled : Bool} {m : Model} {log : List Entry} {w : World} {due : List ℕ} {sent : ℕ} {ahead : Ahead} {ranges : List IdRange} (spoiled2 : Bool) (round : Round) (s2 : PlanState) (due2 : List ℕ) (ahead2 : Ahead) (ranges2 : List IdRange) (happened : Event)
+    → record { spoiled = spoiled; model = m; log = log; world = w } ≡ s → IsSound spoiled m log w due sent ahead ranges → w.dispatched ≡ take sent due → IsOpen s happened
     → IsEventInRange s.model happened → IsReplyTo s.model happened reply.Done → reply.Done ≡ reply_of s.world happened
-    → KeepsStanding s.world.state s2 → due2 ≡ due_in s2 → IsAhead s2 ahead2 → with_round round (with_state s2 s.world) ≡ after s.world happened → round.turn ≤ s.world.options.turns
-    → IsSound spoiled2 m (log ++ record { event = happened; reply = reply.Done } ∷ []) (record { state = s2; options = w.options; dispatched = take sent due2; turn = round.turn; rested = round.rested; held = round.held; closed = round.closed; done = w.done; halted = round.halted }) due2 sent ahead2
-sound_changed s {spoiled} {m} {log} {w} {due} {sent} spoiled2 round s2 due2 ahead2 happened is sound dispatched may in_range replies answers keeps due_is looked leaves turn =
+    → KeepsStanding s.world.state s2 → due2 ≡ due_in s2 → IsAhead s2 ahead2 ranges2 → with_round round (with_state s2 s.world) ≡ after s.world happened → round.turn ≤ s.world.options.turns
+    → IsSound spoiled2 m (log ++ record { event = happened; reply = reply.Done } ∷ []) (record { state = s2; options = w.options; dispatched = take sent due2; turn = round.turn; rested = round.rested; held = round.held; closed = round.closed; done = w.done; halted = round.halted }) due2 sent ahead2 ranges2
+sound_changed s {spoiled} {m} {log} {w} {due} {sent} spoiled2 round s2 due2 ahead2 ranges2 happened is sound dispatched may in_range replies answers keeps due_is looked leaves turn =
     let unspoiled : spoiled ≡ false = ap (λ (t : State). t.spoiled) is ∙ may.unspoiled in
     let same : w ≡ s.world = ap (λ (t : State). t.world) is in
     let standing = sound.stands unspoiled in
@@ -197,7 +198,7 @@ sound_changed s {spoiled} {m} {log} {w} {due} {sent} spoiled2 round s2 due2 ahea
     let w2 : World = record { state = s2; options = w.options; dispatched = take sent due2; turn = round.turn; rested = round.rested; held = round.held; closed = round.closed; done = w.done; halted = round.halted } in
     let parts : w2 ≡ with_round round (with_state s2 w) = ap (λ (d : List ℕ). record { state = s2; options = w.options; dispatched = d; turn = round.turn; rested = round.rested; held = round.held; closed = round.closed; done = w.done; halted = round.halted }) front in
     let longer : length due2 ≡ length due + length keeps2.due.0 = ap length (due_is ∙ keeps2.due.1 ∙ ap (λ (xs : List ℕ). xs ++ keeps2.due.0) (sym standing.listed)) ∙ length-append due keeps2.due.0 in
-    sound_step s spoiled2 w2 due2 sent ahead2 happened reply.Done is sound may in_range replies answers (parts ∙ ap (λ (v : World). with_round round (with_state s2 v)) same ∙ leaves) (record {
+    sound_step s spoiled2 w2 due2 sent ahead2 ranges2 happened reply.Done is sound may in_range replies answers (parts ∙ ap (λ (v : World). with_round round (with_state s2 v)) same ∙ leaves) (record {
       options = refl;
       model = keeps2.model;
       due = due_is;
@@ -209,7 +210,7 @@ sound_changed s {spoiled} {m} {log} {w} {due} {sent} spoiled2 round s2 due2 ahea
     })
 
 -- an unspoiled machine stands for the world after its log
-pub sound_history : {spoiled : Bool} {m : Model} {log : List Entry} {w : World} {due : List ℕ} {sent : ℕ} {ahead : Ahead} → IsSound spoiled m log w due sent ahead → spoiled ≡ false → IsHistory m log w
+pub sound_history : {spoiled : Bool} {m : Model} {log : List Entry} {w : World} {due : List ℕ} {sent : ℕ} {ahead : Ahead} {ranges : List IdRange} → IsSound spoiled m log w due sent ahead ranges → spoiled ≡ false → IsHistory m log w
 sound_history sound unspoiled = record { legal = sound.legal; world = (sound.stands unspoiled).world; options = sound.options }
 
 -- ---- the events of a machine
@@ -220,10 +221,10 @@ pub spoils : (s : State) {spoiled : Bool} {m : Model} {log : List Entry} {w : Wo
 spoils s {spoiled} {m} {log} {w} spoiled2 s2 is e = subst (λ (t : State). Spoils t (record { spoiled = spoiled2; model = m; log = log; world = record w { state = s2 } })) is (record { spoiled = e; model = refl; log = refl; world = refl })
 
 -- an event that leaves the plan state
-pub sound_appended : (s : State) {spoiled : Bool} {m : Model} {log : List Entry} {w : World} {due : List ℕ} {sent : ℕ} {ahead : Ahead} (spoiled2 : Bool) (round : Round) (happened : Event) (answer : Reply)
-    → record { spoiled = spoiled; model = m; log = log; world = w } ≡ s → IsSound spoiled m log w due sent ahead → IsOpen s happened
+pub sound_appended : (s : State) {spoiled : Bool} {m : Model} {log : List Entry} {w : World} {due : List ℕ} {sent : ℕ} {ahead : Ahead} {ranges : List IdRange} (spoiled2 : Bool) (round : Round) (happened : Event) (answer : Reply)
+    → record { spoiled = spoiled; model = m; log = log; world = w } ≡ s → IsSound spoiled m log w due sent ahead ranges → IsOpen s happened
     → IsEventInRange s.model happened → IsReplyTo s.model happened answer → answer ≡ reply_of s.world happened → with_round round s.world ≡ after s.world happened → round.turn ≤ s.world.options.turns
-    → IsSound spoiled2 m (log ++ record { event = happened; reply = answer } ∷ []) (with_round round w) due sent ahead
+    → IsSound spoiled2 m (log ++ record { event = happened; reply = answer } ∷ []) (with_round round w) due sent ahead ranges
 sound_appended s {spoiled} {m} {log} {w} {due} {sent} spoiled2 round happened answer is sound may in_range replies answers leaves turn =
     sound_same s spoiled2 (with_round round w) happened answer is sound may in_range replies answers (ap (λ (t : State). with_round round t.world) is ∙ leaves) refl refl (subst (λ (t : State). round.turn ≤ t.world.options.turns) (sym is) turn)
 
@@ -242,18 +243,18 @@ took_appended s {spoiled} {m} {log} {w} spoiled2 round happened answer is may an
 )
 
 -- an event that changes the plan state
-pub sound_carried : (s : State) {spoiled : Bool} {m : Model} {log : List Entry} {w : World} {due : List ℕ} {sent : ℕ} {ahead : Ahead} (spoiled2 : Bool) (round : Round) (s2 : PlanState) (due2 : List ℕ) (ahead2 : Ahead) (change : Change) (happened : Event)
-    → record { spoiled = spoiled; model = m; log = log; world = w } ≡ s → IsSound spoiled m log w due sent ahead → w.dispatched ≡ take sent due → IsOpen s happened
+pub sound_carried : (s : State) {spoiled : Bool} {m : Model} {log : List Entry} {w : World} {due : List ℕ} {sent : ℕ} {ahead : Ahead} {ranges : List IdRange} (spoiled2 : Bool) (round : Round) (s2 : PlanState) (due2 : List ℕ) (ahead2 : Ahead) (ranges2 : List IdRange) (change : Change) (happened : Event)
+    → record { spoiled = spoiled; model = m; log = log; world = w } ≡ s → IsSound spoiled m log w due sent ahead ranges → w.dispatched ≡ take sent due → IsOpen s happened
     → IsEventInRange s.model happened → IsReplyTo s.model happened reply.Done → reply.Done ≡ reply_of s.world happened
-    → KeepsStanding w.state s2 → due2 ≡ due_in s2 → IsAhead s2 ahead2 → s2 ≡ changed change w.state → with_round round (with_state (changed change s.world.state) s.world) ≡ after s.world happened → round.turn ≤ s.world.options.turns
-    → IsSound spoiled2 m (log ++ record { event = happened; reply = reply.Done } ∷ []) (record { state = s2; options = w.options; dispatched = take sent due2; turn = round.turn; rested = round.rested; held = round.held; closed = round.closed; done = w.done; halted = round.halted }) due2 sent ahead2
-sound_carried s {spoiled} {m} {log} {w} {due} {sent} spoiled2 round s2 due2 ahead2 change happened is sound dispatched may in_range replies answers keeps due_is looked made leaves turn =
+    → KeepsStanding w.state s2 → due2 ≡ due_in s2 → IsAhead s2 ahead2 ranges2 → s2 ≡ changed change w.state → with_round round (with_state (changed change s.world.state) s.world) ≡ after s.world happened → round.turn ≤ s.world.options.turns
+    → IsSound spoiled2 m (log ++ record { event = happened; reply = reply.Done } ∷ []) (record { state = s2; options = w.options; dispatched = take sent due2; turn = round.turn; rested = round.rested; held = round.held; closed = round.closed; done = w.done; halted = round.halted }) due2 sent ahead2 ranges2
+sound_carried s {spoiled} {m} {log} {w} {due} {sent} spoiled2 round s2 due2 ahead2 ranges2 change happened is sound dispatched may in_range replies answers keeps due_is looked made leaves turn =
     let same : w ≡ s.world = ap (λ (t : State). t.world) is in
     let made2 : s2 ≡ changed change s.world.state = made ∙ ap (λ (v : World). changed change v.state) same in
-    sound_changed s spoiled2 round s2 due2 ahead2 happened is sound dispatched may in_range replies answers (subst (λ (v : World). KeepsStanding v.state s2) same keeps) due_is looked (ap (λ (x : PlanState). with_round round (with_state x s.world)) made2 ∙ leaves) turn
+    sound_changed s spoiled2 round s2 due2 ahead2 ranges2 happened is sound dispatched may in_range replies answers (subst (λ (v : World). KeepsStanding v.state s2) same keeps) due_is looked (ap (λ (x : PlanState). with_round round (with_state x s.world)) made2 ∙ leaves) turn
 
-pub took_carried : (s : State) {spoiled : Bool} {m : Model} {log : List Entry} {w : World} {due : List ℕ} {sent : ℕ} {ahead : Ahead} (spoiled2 : Bool) (round : Round) (s2 : PlanState) (due2 : List ℕ) (change : Change) (happened : Event)
-    → record { spoiled = spoiled; model = m; log = log; world = w } ≡ s → IsSound spoiled m log w due sent ahead → w.dispatched ≡ take sent due → IsOpen s happened
+pub took_carried : (s : State) {spoiled : Bool} {m : Model} {log : List Entry} {w : World} {due : List ℕ} {sent : ℕ} {ahead : Ahead} {ranges : List IdRange} (spoiled2 : Bool) (round : Round) (s2 : PlanState) (due2 : List ℕ) (change : Change) (happened : Event)
+    → record { spoiled = spoiled; model = m; log = log; world = w } ≡ s → IsSound spoiled m log w due sent ahead ranges → w.dispatched ≡ take sent due → IsOpen s happened
     → reply.Done ≡ reply_of s.world happened
     → KeepsStanding w.state s2 → due2 ≡ due_in s2 → s2 ≡ changed change w.state → with_round round (with_state (changed change s.world.state) s.world) ≡ after s.world happened → spoiled2 ≡ false
     → IsOpen s happened × Takes s happened reply.Done (record { spoiled = spoiled2; model = m; log = log ++ record { event = happened; reply = reply.Done } ∷ []; world = record { state = s2; options = w.options; dispatched = take sent due2; turn = round.turn; rested = round.rested; held = round.held; closed = round.closed; done = w.done; halted = round.halted } })

@@ -11,6 +11,7 @@ use Rattle.pl_lists.proofs.Tests.{and_second}
 use Rattle.pl_model.specs.declared.whole.Model.{Model}
 use Rattle.pl_entry.specs.declared.entry.Entry.{Entry}
 use Rattle.pl_machine.specs.declared.ahead.Ahead.{Ahead}
+use Rattle.pl_machine.specs.declared.id_range.IdRange.{IdRange}
 use Rattle.pl_machine.specs.World.{World, due_in}
 use Rattle.pl_machine.specs.Step.{all_sent, next_due, sent_reply, after_dispatch, after, reply_of}
 use Rattle.pl_machine.specs.Keeping.{AreSendable}
@@ -57,21 +58,21 @@ count_sent n ys le = rw (length-take n ys) (grind (arith, common_steps))
 count_is : (n : ℕ) (xs : List ℕ) → n ≤ length xs → length (take n xs) ≡ n
 count_is n xs le = length-take n xs ∙ (let same : min n (length xs) ≡ n = omega (arith, le) in same)
 
-pub sent_all : {spoiled : Bool} {m : Model} {log : List Entry} {w : World} {due : List ℕ} {sent : ℕ} {ahead : Ahead} (s : State) → record { spoiled = spoiled; model = m; log = log; world = w } ≡ s → IsSound spoiled m log w due sent ahead
+pub sent_all : {spoiled : Bool} {m : Model} {log : List Entry} {w : World} {due : List ℕ} {sent : ℕ} {ahead : Ahead} {ranges : List IdRange} (s : State) → record { spoiled = spoiled; model = m; log = log; world = w } ≡ s → IsSound spoiled m log w due sent ahead ranges
     → s.spoiled ≡ false → w.dispatched ≡ take sent due → nat_le (length due) sent ≡ all_sent s.world
 sent_all {spoiled} {m} {log} {w} {due} {sent} s is sound unspoiled dispatched =
     let standing = sound.stands (ap (λ (t : State). t.spoiled) is ∙ unspoiled) in
     front_is_all sent due sound.within ∙ ap (λ xs. pointwise nat_eq xs due) (sym dispatched) ∙ ap (λ xs. pointwise nat_eq w.dispatched xs) standing.listed
     ∙ ap (λ (t : State). all_sent t.world) is
 
-pub sent_count : {spoiled : Bool} {m : Model} {log : List Entry} {w : World} {due : List ℕ} {sent : ℕ} {ahead : Ahead} (s : State) → record { spoiled = spoiled; model = m; log = log; world = w } ≡ s → IsSound spoiled m log w due sent ahead
+pub sent_count : {spoiled : Bool} {m : Model} {log : List Entry} {w : World} {due : List ℕ} {sent : ℕ} {ahead : Ahead} {ranges : List IdRange} (s : State) → record { spoiled = spoiled; model = m; log = log; world = w } ≡ s → IsSound spoiled m log w due sent ahead ranges
     → s.spoiled ≡ false → w.dispatched ≡ take sent due → nat_le (length due) sent ≡ not (nat_lt (length s.world.dispatched) (length (due_in s.world.state)))
 sent_count {spoiled} {m} {log} {w} {due} {sent} s is sound unspoiled dispatched =
     let standing = sound.stands (ap (λ (t : State). t.spoiled) is ∙ unspoiled) in
     count_sent sent due sound.within ∙ ap (λ xs. not (nat_lt (length xs) (length due))) (sym dispatched) ∙ ap (λ xs. not (nat_lt (length w.dispatched) (length xs))) standing.listed
     ∙ ap (λ (t : State). not (nat_lt (length t.world.dispatched) (length (due_in t.world.state)))) is
 
-pub left_count : {spoiled : Bool} {m : Model} {log : List Entry} {w : World} {due : List ℕ} {sent : ℕ} {ahead : Ahead} (s : State) → record { spoiled = spoiled; model = m; log = log; world = w } ≡ s → IsSound spoiled m log w due sent ahead
+pub left_count : {spoiled : Bool} {m : Model} {log : List Entry} {w : World} {due : List ℕ} {sent : ℕ} {ahead : Ahead} {ranges : List IdRange} (s : State) → record { spoiled = spoiled; model = m; log = log; world = w } ≡ s → IsSound spoiled m log w due sent ahead ranges
     → s.spoiled ≡ false → w.dispatched ≡ take sent due → nat_lt sent (length due) ≡ nat_lt (length s.world.dispatched) (length (due_in s.world.state))
 left_count {spoiled} {m} {log} {w} {due} {sent} s is sound unspoiled dispatched =
     let standing = sound.stands (ap (λ (t : State). t.spoiled) is ∙ unspoiled) in
@@ -102,7 +103,7 @@ next_live s due n whole is lt =
 pub found_itself : (s : PlanState) (id : ℕ) (a : Activity) → IsWhole s → Some a ≡ found s id → found s a.id ≡ Some a
 found_itself s id a whole here = let is : a.id ≡ id = (all_at (FitsAlone s.model) s.plan.activities id a whole.fits.each (sym here)).1 in subst (λ (n : ℕ). found s n ≡ Some a) (sym is) (sym here)
 
-pub next_of : (s : State) {spoiled : Bool} {m : Model} {log : List Entry} {w : World} {due : List ℕ} {sent : ℕ} {ahead : Ahead} (id : ℕ) → record { spoiled = spoiled; model = m; log = log; world = w } ≡ s → IsSound spoiled m log w due sent ahead
+pub next_of : (s : State) {spoiled : Bool} {m : Model} {log : List Entry} {w : World} {due : List ℕ} {sent : ℕ} {ahead : Ahead} {ranges : List IdRange} (id : ℕ) → record { spoiled = spoiled; model = m; log = log; world = w } ≡ s → IsSound spoiled m log w due sent ahead ranges
     → s.spoiled ≡ false → w.dispatched ≡ take sent due → IsWhole s.world.state → length s.world.dispatched < length (due_in s.world.state) → id ≡ get_or due sent id
     → (a : Activity) × (found s.world.state id ≡ Some a) × (is_committed s.world.state a ≡ true) × (found s.world.state a.id ≡ Some a) × (next_due s.world ≡ Some a)
 next_of s {spoiled} {m} {log} {w} {due} {sent} id is sound unspoiled dispatched whole left read =
@@ -158,13 +159,13 @@ sent_world : (m : Model) (w : World) (answer : Reply) (o : Option Activity) → 
 sent_world m w answer None is replies answers = absurd (subst (IsDispatchReply m) answers replies)
 sent_world m w answer (Some a) is replies answers = (a, is, ap (after_dispatch w) answers)
 
-pub left_of_open : (s : State) {spoiled : Bool} {m : Model} {log : List Entry} {w : World} {due : List ℕ} {sent : ℕ} {ahead : Ahead} → record { spoiled = spoiled; model = m; log = log; world = w } ≡ s → IsSound spoiled m log w due sent ahead
+pub left_of_open : (s : State) {spoiled : Bool} {m : Model} {log : List Entry} {w : World} {due : List ℕ} {sent : ℕ} {ahead : Ahead} {ranges : List IdRange} → record { spoiled = spoiled; model = m; log = log; world = w } ≡ s → IsSound spoiled m log w due sent ahead ranges
     → w.dispatched ≡ take sent due → IsOpen s event.Dispatch → sent < length due
 left_of_open s {spoiled} {m} {log} {w} {due} {sent} is sound dispatched may =
     ltb-true sent (length due) (left_count s is sound may.unspoiled dispatched ∙ and_second (not s.world.closed) (nat_lt (length s.world.dispatched) (length (due_in s.world.state))) may.enabled)
 
-sent_more : (s : State) {spoiled : Bool} {m : Model} {log : List Entry} {w : World} {due : List ℕ} {sent : ℕ} {ahead : Ahead} (answer : Reply)
-    → record { spoiled = spoiled; model = m; log = log; world = w } ≡ s → IsSound spoiled m log w due sent ahead → w.dispatched ≡ take sent due → IsWhole w.state → IsOpen s event.Dispatch
+sent_more : (s : State) {spoiled : Bool} {m : Model} {log : List Entry} {w : World} {due : List ℕ} {sent : ℕ} {ahead : Ahead} {ranges : List IdRange} (answer : Reply)
+    → record { spoiled = spoiled; model = m; log = log; world = w } ≡ s → IsSound spoiled m log w due sent ahead ranges → w.dispatched ≡ take sent due → IsWhole w.state → IsOpen s event.Dispatch
     → IsDispatchReply s.model answer → answer ≡ reply_of s.world event.Dispatch → (sent < length due) × (record w { dispatched = take (sent + 1) due } ≡ after s.world event.Dispatch)
 sent_more s {spoiled} {m} {log} {w} {due} {sent} answer is sound dispatched whole may replies answers =
     let unspoiled : spoiled ≡ false = ap (λ (t : State). t.spoiled) is ∙ may.unspoiled in
@@ -180,15 +181,15 @@ sent_more s {spoiled} {m} {log} {w} {due} {sent} answer is sound dispatched whol
       ap (λ (xs : List ℕ). record w { dispatched = xs }) longer ∙ sym next.2 ∙ ap (λ (v : World). after_dispatch v answer) same ∙ ap (after_dispatch s.world) answers,
     )
 
-pub sound_sent : (s : State) {spoiled : Bool} {m : Model} {log : List Entry} {w : World} {due : List ℕ} {sent : ℕ} {ahead : Ahead} (spoiled2 : Bool) (answer : Reply)
-    → record { spoiled = spoiled; model = m; log = log; world = w } ≡ s → IsSound spoiled m log w due sent ahead → w.dispatched ≡ take sent due → IsWhole w.state → IsOpen s event.Dispatch
+pub sound_sent : (s : State) {spoiled : Bool} {m : Model} {log : List Entry} {w : World} {due : List ℕ} {sent : ℕ} {ahead : Ahead} {ranges : List IdRange} (spoiled2 : Bool) (answer : Reply)
+    → record { spoiled = spoiled; model = m; log = log; world = w } ≡ s → IsSound spoiled m log w due sent ahead ranges → w.dispatched ≡ take sent due → IsWhole w.state → IsOpen s event.Dispatch
     → IsDispatchReply s.model answer → answer ≡ reply_of s.world event.Dispatch
-    → IsSound spoiled2 m (log ++ record { event = event.Dispatch; reply = answer } ∷ []) (record w { dispatched = take (sent + 1) due }) due (sent + 1) ahead
-sound_sent s {spoiled} {m} {log} {w} {due} {sent} {ahead} spoiled2 answer is sound dispatched whole may replies answers =
+    → IsSound spoiled2 m (log ++ record { event = event.Dispatch; reply = answer } ∷ []) (record w { dispatched = take (sent + 1) due }) due (sent + 1) ahead ranges
+sound_sent s {spoiled} {m} {log} {w} {due} {sent} {ahead} {ranges} spoiled2 answer is sound dispatched whole may replies answers =
     let unspoiled : spoiled ≡ false = ap (λ (t : State). t.spoiled) is ∙ may.unspoiled in
     let standing = sound.stands unspoiled in
     let more = sent_more s answer is sound dispatched whole may replies answers in
-    sound_step s spoiled2 (record w { dispatched = take (sent + 1) due }) due (sent + 1) ahead event.Dispatch answer is sound may tt replies answers more.1 (record {
+    sound_step s spoiled2 (record w { dispatched = take (sent + 1) due }) due (sent + 1) ahead ranges event.Dispatch answer is sound may tt replies answers more.1 (record {
       options = refl;
       model = refl;
       due = standing.listed;
@@ -199,8 +200,8 @@ sound_sent s {spoiled} {m} {log} {w} {due} {sent} {ahead} spoiled2 answer is sou
       next_id = omega arith;
     })
 
-pub took_sent : (s : State) {spoiled : Bool} {m : Model} {log : List Entry} {w : World} {due : List ℕ} {sent : ℕ} {ahead : Ahead} (spoiled2 : Bool) (answer : Reply)
-    → record { spoiled = spoiled; model = m; log = log; world = w } ≡ s → IsSound spoiled m log w due sent ahead → w.dispatched ≡ take sent due → IsWhole w.state → IsOpen s event.Dispatch
+pub took_sent : (s : State) {spoiled : Bool} {m : Model} {log : List Entry} {w : World} {due : List ℕ} {sent : ℕ} {ahead : Ahead} {ranges : List IdRange} (spoiled2 : Bool) (answer : Reply)
+    → record { spoiled = spoiled; model = m; log = log; world = w } ≡ s → IsSound spoiled m log w due sent ahead ranges → w.dispatched ≡ take sent due → IsWhole w.state → IsOpen s event.Dispatch
     → IsDispatchReply s.model answer → answer ≡ reply_of s.world event.Dispatch → spoiled2 ≡ false
     → IsOpen s event.Dispatch × Takes s event.Dispatch answer (record { spoiled = spoiled2; model = m; log = log ++ record { event = event.Dispatch; reply = answer } ∷ []; world = record w { dispatched = take (sent + 1) due } })
 took_sent s {spoiled} {m} {log} {w} {due} {sent} spoiled2 answer is sound dispatched whole may replies answers unspoiled =

@@ -13,6 +13,7 @@ use Rattle.pl_semantics.specs.declared.plan_state.PlanState.{PlanState}
 use Rattle.pl_semantics.specs.PlanStates.{found}
 use Rattle.pl_semantics.specs.Whole.{IsWhole}
 use Rattle.pl_machine.specs.declared.ahead.Ahead.{Ahead}
+use Rattle.pl_machine.specs.declared.id_range.IdRange.{IdRange}
 use Rattle.pl_machine.specs.World.{World, due_in}
 use Rattle.pl_machine.specs.Step.{next_due, sent_reply, reply_of}
 use Rattle.pl_machine.specs.Sending.{IsLastStart, StartsLast}
@@ -37,8 +38,8 @@ last_by : (w : World) (o : Option Activity) (b : Activity) → o ≡ Some b → 
 last_by w None b is last = absurd (cc)
 last_by w (Some a) b is last = subst (λ (c : Activity). IsLastStart w c.start) (let same : b ≡ a = cc in same) last
 
-pub starts_last : (s : State) {spoiled : Bool} {m : Model} {log : List Entry} {w : World} {due : List ℕ} {sent : ℕ} {ahead : Ahead} (answer : Reply)
-    → record { spoiled = spoiled; model = m; log = log; world = w } ≡ s → IsSound spoiled m log w due sent ahead → w.dispatched ≡ take sent due → IsWhole s.world.state → IsOpen s event.Dispatch
+pub starts_last : (s : State) {spoiled : Bool} {m : Model} {log : List Entry} {w : World} {due : List ℕ} {sent : ℕ} {ahead : Ahead} {ranges : List IdRange} (answer : Reply)
+    → record { spoiled = spoiled; model = m; log = log; world = w } ≡ s → IsSound spoiled m log w due sent ahead ranges → w.dispatched ≡ take sent due → IsWhole s.world.state → IsOpen s event.Dispatch
     → answer ≡ reply_of s.world event.Dispatch → StartsLast s.world answer
 starts_last s {spoiled} {m} {log} {w} {due} {sent} answer is sound dispatched whole may answers =
     let standing = sound.stands (ap (λ (t : State). t.spoiled) is ∙ may.unspoiled) in

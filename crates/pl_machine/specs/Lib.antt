@@ -17,6 +17,8 @@ pub mod Step
 pub mod Legal
 pub mod Repairs
 pub mod Calm
+pub mod IdRanges
+pub mod Looking
 pub mod Keeping
 pub mod Changes
 pub mod Sound

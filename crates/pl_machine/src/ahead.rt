@@ -3,6 +3,6 @@
 pub(crate) struct Ahead {
     /// No activity starts after the present and before this moment.
     pub(crate) next_start: u32,
-    /// This many activities at the front of the plan's list are settled.
-    pub(crate) settled: usize,
+    /// An activity of a lower id is settled, unless its id is in one of the open ranges.
+    pub(crate) seen: u32,
 }

@@ -4,14 +4,20 @@
 mod ahead;
 mod change;
 mod choice;
+mod counting;
+mod found;
+mod id_range;
 mod machine;
+mod period;
 mod ranges;
 mod repaired;
 mod round;
 mod schedule;
 mod sharing;
+mod sorting;
 mod starting;
 mod stop;
+mod unsettled;
 
 pub use choice::Choice;
 pub use machine::Machine;

@@ -60,7 +60,7 @@ impl std::marker::Model for Machine {
 
     ghost view = { λ m. record { spoiled = m.board.spoiled; model = m.model; log = m.log.items; world = record { state = m.board.state; options = m.options; dispatched = take m.sent m.schedule.due.items; turn = m.round.turn; rested = m.round.rested; held = m.round.held; closed = m.round.closed; done = m.done; halted = m.round.halted } } };
 
-    ghost invariant = { λ m. IsSound m.board.spoiled m.model m.log.items (record { state = m.board.state; options = m.options; dispatched = take m.sent m.schedule.due.items; turn = m.round.turn; rested = m.round.rested; held = m.round.held; closed = m.round.closed; done = m.done; halted = m.round.halted }) m.schedule.due.items m.sent m.schedule.ahead };
+    ghost invariant = { λ m. IsSound m.board.spoiled m.model m.log.items (record { state = m.board.state; options = m.options; dispatched = take m.sent m.schedule.due.items; turn = m.round.turn; rested = m.round.rested; held = m.round.held; closed = m.round.closed; done = m.done; halted = m.round.halted }) m.schedule.due.items m.sent m.schedule.ahead m.schedule.ranges.items };
 }
 
 impl Machine {

@@ -1,13 +1,17 @@
 //! When an activity starts next, and which activities are settled.
-ghost use Rattle.std.specs.Prelude.{◌≡◌};
-ghost use Rattle.pl_machine.specs.Calm.{nearer, next_start, is_settled, AreSettled, ahead_after};
+ghost use Rattle.std.specs.Prelude.{◌≡◌, ◌<◌, ◌==◌, length};
+ghost use Rattle.pl_plan.specs.Fitting.{kind_of, alternatives_of};
+ghost use Rattle.pl_entry.specs.Due.{is_due_since};
+ghost use Rattle.pl_machine.specs.Calm.{nearer, is_settled, ahead_after};
 
 use crate::ahead::Ahead;
 use crate::change::Change;
+use crate::period::Period;
+use pl_model::Model;
 use pl_plan::Activity;
 
 /// The start, if it lies after the moment and before the next start that is known so far, else that next start.
-fn nearer(moment: u32, next: u32, start: u32) -> u32
+pub(crate) fn nearer(moment: u32, next: u32, start: u32) -> u32
     ensures { result ≡ nearer moment next start }
 {
     if moment < start && start < next {
@@ -17,33 +21,29 @@ fn nearer(moment: u32, next: u32, start: u32) -> u32
     }
 }
 
-/// The earliest start after the moment, or the greatest number if nothing starts after it.
-pub(crate) fn next_start(moment: u32, activities: &[Activity]) -> u32
-    ensures { result ≡ next_start moment 4294967295 activities.now }
+pub(crate) fn is_settled(period: Period, activity: &Activity) -> bool
+    ensures { result ≡ is_settled period.moment period.committed activity.now }
 {
-    let mut next = u32::MAX;
-    for activity in activities {
-        next = nearer(moment, next, activity.start);
-    }
-    next
+    activity.start <= period.moment && activity.start < period.committed
 }
 
-fn is_settled(moment: u32, c: u32, activity: &Activity) -> bool
-    ensures { result ≡ is_settled moment c activity.now }
+fn is_basic(model: &Model, activity: &Activity) -> bool
+    requires { activity.now.kind < length model.now.kinds }
+    ensures { result ≡ (length (alternatives_of (kind_of model.now activity.now)) == 0) }
 {
-    activity.start <= moment && activity.start < c
+    let kind = &model.kinds.as_slice()[activity.kind as usize];
+    kind.alternatives.is_empty()
 }
 
-/// How many activities at the front of the list are settled.
-pub(crate) fn settled_front(moment: u32, c: u32, activities: &[Activity]) -> usize
-    ensures { AreSettled moment c result activities.now }
+/// Whether the activity has come to be due in the period.
+pub(crate) fn is_due_since(model: &Model, period: Period, activity: &Activity) -> bool
+    requires { activity.now.kind < length model.now.kinds }
+    ensures { result ≡ is_due_since model.now period.before period.moment period.committed activity.now }
 {
-    for (place, activity) in activities.iter().enumerate() {
-        if !is_settled(moment, c, activity) {
-            return place;
-        }
-    }
-    activities.len()
+    period.before < activity.start
+        && activity.start < period.committed
+        && activity.start <= period.moment
+        && is_basic(model, activity)
 }
 
 /// What is still known of the starts ahead after a change of the plan.

@@ -1,9 +1,10 @@
 -- A look at items one by one, from a place on.
-use Rattle.std.proofs.Common.{◌≡◌, ℕ, suc, ◌+◌, ◌-◌, ◌<◌, ◌≤◌, Bool, true, false, List, [], ◌∷◌, ◌++◌, length, take, drop, get_or, refl, ap, sym, ◌∙◌, arith}
-use Rattle.std.proofs.lemmas.List.{append_assoc, append-nil, drop-drop, length-drop}
+use Rattle.std.proofs.Common.{◌≡◌, ℕ, zero, suc, ◌+◌, ◌-◌, ◌<◌, ◌≤◌, Bool, true, false, cond, Option, Some, None, IfSome, List, [], ◌∷◌, ◌++◌, length, take, drop, get_or, refl, ap, sym, ◌∙◌, subst, arith}
+use Rattle.std.proofs.lemmas.List.{append_assoc, append-nil, take-append-drop, drop-drop, length-drop}
 use Rattle.std.proofs.Math.Seq.{take-suc}
 use Rattle.pl_lists.specs.Lists.{front, back}
 use Rattle.pl_points.proofs.Parting.{drop_next}
+use Rattle.pl_state.specs.Rows.{EndsAt}
 
 -- all from a place up to another pass
 pub record AllPassed {T : Type 0} (p : T → Bool) (xs : List T) (from place : ℕ) : Type 0 where
@@ -59,3 +60,27 @@ stops_there p xs from place x all lt here fails =
     let rest : back p (drop place xs) ≡ drop place xs = ap (back p) cut ∙ (rw fails (sym cut)) in
     let kept = take (place - from) (drop from xs) in
     (sym (all.front ∙ ap (λ l. kept ++ l) none ∙ append-nil kept), sym (all.rest ∙ rest))
+
+-- where the items of a front end, the whole ends
+ends_in : {T : Type 0} (p : T → Bool) (xs rest : List T) (n : ℕ) → EndsAt p xs n → EndsAt p (xs ++ rest) n
+ends_in p [] rest n e = absurd (omega (arith, e.there))
+ends_in {T} p (x ∷ xs) rest n e = cases (p x) n e.there e.front e.rest (ends_in p xs rest) refl
+  where
+    cases : (b : Bool) (n : ℕ) → n < suc (length xs) → take n (x ∷ xs) ≡ cond b (x ∷ front p xs) [] → drop n (x ∷ xs) ≡ cond b (back p xs) (x ∷ xs)
+        → ((m : ℕ) → EndsAt p xs m → EndsAt p (xs ++ rest) m)
+        → p x ≡ b → EndsAt p (x ∷ (xs ++ rest)) n
+    cases true zero lt first behind more is = absurd (let h : [] ≡ x ∷ front p xs = first in (cc))
+    cases true (suc m) lt first behind more is =
+        let next = more m (record { there = omega (arith, lt); front = ap (drop 1) first; rest = behind }) in
+        record { there = omega (arith, next.there); front = ap (λ l. x ∷ l) next.front ∙ rw is refl; rest = next.rest ∙ rw is refl }
+    cases false zero lt first behind more is = record { there = omega arith; front = rw is refl; rest = rw is refl }
+    cases false (suc m) lt first behind more is = absurd (let h : x ∷ take m xs ≡ [] = first in (cc))
+
+pub ends_within : {T : Type 0} (p : T → Bool) (all xs : List T) (n : ℕ) → xs ≡ take (length xs) all → EndsAt p xs n → EndsAt p all n
+ends_within p all xs n is ends =
+    let whole : xs ++ drop (length xs) all ≡ all = ap (λ l. l ++ drop (length xs) all) is ∙ take-append-drop (length xs) all in
+    subst (λ l. EndsAt p l n) whole (ends_in p xs (drop (length xs) all) n ends)
+
+pub if_some_weaker : {T : Type 0} (P Q : T → Type 0) (r : Option T) → ((x : T) → P x → Q x) → IfSome r P → IfSome r Q
+if_some_weaker P Q None f h = h
+if_some_weaker P Q (Some x) f h = f x h

@@ -1,11 +1,11 @@
 -- Sets in order, and the state that they leave.
-use Rattle.std.proofs.Common.{◌≡◌, ℕ, zero, suc, ◌<◌, ◌≤◌, Bool, true, false, ◌&&◌, cond, List, [], ◌∷◌, ◌++◌, length, get_or, take, drop, refl, ap, sym, ◌∙◌, arith, eqb, ltb, leb, inl, inr}
+use Rattle.std.proofs.Common.{◌≡◌, ℕ, zero, suc, ◌<◌, ◌≤◌, ◌+◌, ◌-◌, Bool, true, false, ◌&&◌, cond, List, [], ◌∷◌, ◌++◌, length, get_or, take, drop, refl, ap, sym, ◌∙◌, subst, arith, eqb, ltb, leb, inl, inr}
 use Rattle.std.proofs.lemmas.Bool.{cond_both, or_cases, and_parts, or_parts, eqb-true, ltb-true, ltb-false, leb-true, leb-false, le-ltb, le-leb, lt-leb}
-use Rattle.std.proofs.lemmas.List.{drop_all}
 use Rattle.std.proofs.Math.Bool.{and-false}
+use Rattle.std.proofs.Math.Seq.{take-add}
 use Rattle.pl_lists.specs.Lists.{front, back}
 use Rattle.pl_points.specs.Standing.{without}
-use Rattle.pl_points.proofs.Parting.{drop_next, back_fails}
+use Rattle.pl_points.proofs.Parting.{drop_next}
 use Rattle.pl_state.specs.declared.reservation.Setting.{Setting}
 use Rattle.pl_state.specs.Sets.{set_before, same_setting, with_set, AreInOrder, is_passed, state_from}
 use Rattle.pl_state.specs.Near.{next_moment}
@@ -108,20 +108,6 @@ without_at same u xs i p rest lt is yes_same =
     let f : without same u (p ∷ drop (suc i) xs) ≡ drop (suc i) xs = rw yes_same refl in
     ap (λ l. take i xs ++ l) (sym f ∙ sym (ap (without same u) e)) ∙ rest
 
-pub next_late : (at i : ℕ) (xs : List Setting) (p : Setting) → drop i xs ≡ back (is_passed at) xs → i < length xs → p ≡ get_or xs i p → (at < p.at) × (back (is_passed at) xs ≡ p ∷ drop (suc i) xs)
-next_late at i xs p rest lt is =
-    let e : back (is_passed at) xs ≡ p ∷ drop (suc i) xs = sym rest ∙ (drop_next xs i p lt ∙ ap (λ q. q ∷ drop (suc i) xs) (sym is)) in
-    (leb-false p.at at (back_fails (is_passed at) xs p (drop (suc i) xs) e), e)
-
-pub same_head : (at : ℕ) (xs : List Setting) (p q : Setting) (l k : List Setting) → back (is_passed at) xs ≡ p ∷ l → back (is_passed at) xs ≡ q ∷ k → p.at ≡ q.at
-same_head at xs p q l k e f = heads (sym e ∙ f)
-  where
-    heads : p ∷ l ≡ q ∷ k → p.at ≡ q.at
-    heads h = let g : p ≡ q = cc in ap (λ (r : Setting). r.at) g
-
-pub none_left : (at i : ℕ) (xs : List Setting) (q : Setting) (k : List Setting) → drop i xs ≡ back (is_passed at) xs → length xs ≤ i → back (is_passed at) xs ≡ q ∷ k → ⊥
-none_left at i xs q k rest le e = let h : [] ≡ q ∷ k = sym (drop_all i xs le) ∙ (rest ∙ e) in cc
-
 -- the next set after a moment is not before it
 pub later_moment : (h m : ℕ) (xs : List Setting) → m ≤ h → m ≤ next_moment h (back (is_passed m) xs)
 later_moment h m [] le = le
@@ -130,3 +116,47 @@ later_moment h m (x ∷ xs) le = cases (leb x.at m) refl (later_moment h m xs le
     cases : (b : Bool) → leb x.at m ≡ b → m ≤ next_moment h (back (is_passed m) xs) → m ≤ next_moment h (cond b (back (is_passed m) xs) (x ∷ xs))
     cases true e more = more
     cases false e more = omega (arith, le, leb-false x.at m e)
+
+pub next_within : (h : ℕ) (xs : List Setting) → next_moment h xs ≤ h
+next_within h [] = omega arith
+next_within h (x ∷ xs) = omega arith
+
+-- and it is behind the moment
+moment_later : (h m : ℕ) (xs : List Setting) → m < h → m < next_moment h (back (is_passed m) xs)
+moment_later h m [] lt = lt
+moment_later h m (x ∷ xs) lt = cases (leb x.at m) refl (moment_later h m xs lt)
+  where
+    cases : (b : Bool) → leb x.at m ≡ b → m < next_moment h (back (is_passed m) xs) → m < next_moment h (cond b (back (is_passed m) xs) (x ∷ xs))
+    cases true e more = more
+    cases false e more = omega (arith, lt, leb-false x.at m e)
+
+-- up to it the state stays as it is
+pub stays_until : (base v at t h : ℕ) (xs : List Setting) → AreInOrder 0 xs → at ≤ t → t < next_moment h (back (is_passed at) xs) → state_from base t v xs ≡ state_from base at v xs
+stays_until base v at t h xs ordered low high =
+    state_stays base v 0 at t xs ordered low (λ p more is. omega (arith, high, ap (next_moment h) is))
+
+-- the end of a piece
+pub end_later : (h at end : ℕ) (l xs : List Setting) → end ≡ next_moment h l → l ≡ back (is_passed at) xs → at < h → at < end
+end_later h at end l xs is rest lt = subst (λ n. at < n) (sym (is ∙ ap (next_moment h) rest)) (moment_later h at xs lt)
+
+passed_both : (a z : ℕ) (xs : List Setting) → a ≤ z → (front (is_passed z) xs ≡ front (is_passed a) xs ++ front (is_passed z) (back (is_passed a) xs)) × (back (is_passed z) xs ≡ back (is_passed z) (back (is_passed a) xs))
+passed_both a z [] le = (refl, refl)
+passed_both a z (x ∷ xs) le = cases (leb x.at a) refl (passed_both a z xs le)
+  where
+    cases : (b : Bool) → leb x.at a ≡ b → (front (is_passed z) xs ≡ front (is_passed a) xs ++ front (is_passed z) (back (is_passed a) xs)) × (back (is_passed z) xs ≡ back (is_passed z) (back (is_passed a) xs))
+        → (front (is_passed z) (x ∷ xs) ≡ cond b (x ∷ front (is_passed a) xs) [] ++ front (is_passed z) (cond b (back (is_passed a) xs) (x ∷ xs))) × (back (is_passed z) (x ∷ xs) ≡ back (is_passed z) (cond b (back (is_passed a) xs) (x ∷ xs)))
+    cases true e more =
+        let f : leb x.at z ≡ true = le-leb x.at z (omega (arith, le, leb-true x.at a e)) in
+        (rw f (ap (λ l. x ∷ l) more.0), rw f more.1)
+    cases false e more = (refl, refl)
+
+-- those that are passed at a later moment, sought from the place of those at an earlier one
+pub passed_on : (a z n m : ℕ) (xs : List Setting) → a ≤ z → n ≤ m → take n xs ≡ front (is_passed a) xs → drop n xs ≡ back (is_passed a) xs → take (m - n) (drop n xs) ≡ front (is_passed z) (drop n xs) → drop m xs ≡ back (is_passed z) (drop n xs)
+    → (take m xs ≡ front (is_passed z) xs) × (drop m xs ≡ back (is_passed z) xs)
+passed_on a z n m xs le on first rest next behind =
+    let both = passed_both a z xs le in
+    let same : m ≡ n + (m - n) = omega (arith, on) in (
+      ap (λ k. take k xs) same ∙ take-add n (m - n) xs ∙ ap (λ l. l ++ take (m - n) (drop n xs)) first
+          ∙ ap (λ l. front (is_passed a) xs ++ l) (next ∙ ap (front (is_passed z)) rest) ∙ sym both.0,
+      behind ∙ ap (back (is_passed z)) rest ∙ sym both.1,
+    )

@@ -7,7 +7,7 @@ use Rattle.pl_lists.specs.Lists.{front, back}
 use Rattle.pl_points.proofs.Parting.{NonePass, IsParted}
 use Rattle.pl_state.specs.declared.reservation.Setting.{Setting}
 use Rattle.pl_state.specs.declared.answer.BadSet.{BadSet}
-use Rattle.pl_state.specs.Sets.{AreInOrder, is_passed, is_counted, state_from, bad_set, bad_from}
+use Rattle.pl_state.specs.Sets.{AreInOrder, is_passed, is_allowed, is_counted, state_from, bad_set, bad_from}
 use Rattle.pl_state.specs.Near.{comes_before, bad_before, bad_by, AreBadInOrder, state_before}
 
 -- whether a set is told
@@ -184,3 +184,10 @@ bad_parts al base h mo s a z c (x ∷ xs) ordered le under = cases (ltb x.at a) 
         bad_two al base h mo s z x.at (x ∷ xs) all
         ∙ (ap (λ k. bad_from al base h mo k (front (is_passed z) (x ∷ xs)) ++ back (bad_by z) (head ++ rest)) (sym (ap (λ b. state_before base a (cond b x.state s) xs) (and-false (ltb base x.at)) ∙ state_before_late base a s x.at xs ordered.1 high))
         ∙ ap (λ l. l ++ (bad_from al base h mo (state_before base a (cond (ltb base x.at && false) x.state s) xs) (front (is_passed z) (x ∷ xs)) ++ back (bad_by z) (head ++ rest))) (sym (front_none al base h mo s a x.at (x ∷ xs) all high)))
+
+-- where any step is allowed, none is told
+pub none_told : (steps : List (ℕ × ℕ)) (base h mo s : ℕ) (xs : List Setting) → bad_from (is_allowed true steps) base h mo s xs ≡ []
+none_told steps base h mo s [] = refl
+none_told steps base h mo s (x ∷ xs) =
+    let e : told (is_allowed true steps) base h mo s x ≡ false = ap (λ b. is_counted base h x && b) (and-false (leb mo x.at)) ∙ and-false (is_counted base h x) in
+    ap (λ b. cond b (bad_set x ∷ []) [] ++ bad_from (is_allowed true steps) base h mo (cond (is_counted base h x) x.state s) xs) e ∙ none_told steps base h mo (cond (is_counted base h x) x.state s) xs

@@ -1,5 +1,6 @@
 -- A list in rows, and how far a search goes in it.
-use Rattle.std.specs.Prelude.{◌≡◌, ℕ, ◌+◌, ◌<◌, ◌≤◌, not, nat_lt, nat_le, Bool, true, List, [], ◌∷◌, ◌++◌, length, take, slice_index_or}
+use Rattle.std.specs.Prelude.{◌≡◌, ℕ, ◌+◌, ◌<◌, ◌≤◌, not, nat_lt, nat_le, Bool, true, List, [], ◌∷◌, ◌++◌, length, take, drop, slice_index_or}
+use Rattle.pl_lists.specs.Lists.{front, back}
 use Rattle.pl_state.specs.declared.key.Key.{Key}
 use Rattle.pl_state.specs.declared.bound.Bound.{Bound}
 use Rattle.pl_state.specs.declared.bound.Bound.TheVariants.{Before, UpTo, Earlier, By}
@@ -41,3 +42,9 @@ pub record IsSpot {T : Type 0} (rows : List (List T)) (place row at : ℕ) : Typ
   pub low : at ≤ length (slice_index_or rows row [])
   pub whole : length (together (take row rows)) + at ≡ place
   pub later : 0 < place → 0 < at
+
+-- the place of the first item that does not pass
+pub record EndsAt {T : Type 0} (p : T → Bool) (xs : List T) (place : ℕ) : Type 0 where
+  pub there : place < length xs
+  pub front : take place xs ≡ front p xs
+  pub rest : drop place xs ≡ back p xs

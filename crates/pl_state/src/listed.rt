@@ -84,6 +84,9 @@ pub(crate) fn replace<T: Keyed>(
     ensures { OnOk result (list.new.items ≡ take begin list.old.items ++
         (fresh.now ++ drop end list.old.items)) }
 {
+    if begin == end && fresh.is_empty() {
+        return Ok(());
+    }
     list.splice(begin..end, fresh.iter().copied())?;
     Ok(())
 }

@@ -3,7 +3,7 @@ ghost use Rattle.std.specs.Prelude.{◌≡◌, ◌≤◌, ◌-◌, ◌∷◌, �
 ghost use Rattle.pl_points.specs.Spans.{span, joined, spans_of};
 ghost use Rattle.pl_state.specs.Sets.{AreInOrder, state_from};
 
-use crate::sets::{Sets, end_of, state_of};
+use crate::sets::{Sets, next_moment, state_left};
 use pl_points::Span;
 use std::alloc::{AllocError, Global};
 
@@ -51,10 +51,12 @@ pub(crate) fn failing_spans(
 {
     let mut spans = Vec::new(alloc);
     let mut at = window.from;
+    let mut passed = sets.passed_count(at);
     'pieces: while at < window.to {
-        let end = end_of(sets, base, value, at, window.to);
-        let found = state_of(sets, base, value, at);
+        let end = next_moment(sets, passed, window.to);
+        let found = state_left(sets, base, value, passed);
         push_piece(&mut spans, found != state, at, end)?;
+        passed = sets.passed_from(passed, end);
         at = end;
     }
     Ok(spans)

@@ -2,7 +2,7 @@
 ghost use Rattle.std.specs.Prelude.{◌≡◌, ◌<◌, ◌≤◌, ◌+◌, ◌-◌, ◌^◌, ◌++◌, ◌∷◌, [], suc, length, take, drop, slice_index_or, OnOk, OnErr, IfOk, IfSome};
 ghost use Rattle.pl_lists.specs.Lists.{front, back};
 ghost use Rattle.pl_state.specs.Keys.{AreSorted};
-ghost use Rattle.pl_state.specs.Rows.{is_covered, last_passes, together, AreFilled};
+ghost use Rattle.pl_state.specs.Rows.{is_covered, last_passes, together, AreFilled, EndsAt};
 
 use crate::bound::Bound;
 use crate::filling::{begin, insert_into, spot_of, take_out};
@@ -46,16 +46,16 @@ fn covered_count<T: Keyed>(rows: &[Row<T>], bound: Bound) -> usize
     rows.partition_point(|row| row.is_covered(bound))
 }
 
-// So many items from the place on, if there are as many.
-fn few_from<T>(items: &[T], from: usize, count: usize) -> Option<&[T]>
-    requires { from ≤ length items.now }
-    ensures value { IfSome result (λ v. v.now ≡ take count (drop from items.now)) }
-    ensures few { IfSome result (λ v. from + count ≤ length items.now) }
+// How many of them lie within the bound, if one of the first few does not.
+fn few_covered<T: Keyed>(items: &[T], bound: Bound) -> Option<usize>
+    ensures { IfSome result (λ n. EndsAt (is_covered T.key bound) items.now n) }
 {
-    if count > items.len() - from {
-        return None;
+    for place in 0..items.len().min(FEW) {
+        if !bound.covers(items[place].key()) {
+            return Some(place);
+        }
     }
-    Some(&items[from..from + count])
+    None
 }
 
 // How many items the rows have.
@@ -179,27 +179,52 @@ impl<T: Keyed> Rows<T> {
         ensures rest { drop result self.now
             ≡ back (is_covered T.key bound) (drop from self.now) }
     {
-        for place in from..self.len().min(from.saturating_add(FEW)) {
-            if !bound.covers(self.at(place).key()) {
-                return place;
-            }
+        let whole = self.len();
+        prove!(from <= whole);
+        match self.few_from(from, bound) {
+            Some(few) => from + few,
+            None => self.end_from(from, bound),
         }
-        self.end_from(from, bound)
+    }
+
+    // How many of the items from the place on lie within the bound, if a look at a few shows it.
+    fn few_from(&self, from: usize, bound: Bound) -> Option<usize>
+        ensures { IfSome result (λ n. EndsAt (is_covered T.key bound) (drop from self.now) n) }
+    {
+        match self.row_from(from) {
+            Some(items) => few_covered(items, bound),
+            None => None,
+        }
+    }
+
+    // The items from the place on that stand in its row, if it has one.
+    fn row_from(&self, from: usize) -> Option<&[T]>
+        ensures { IfSome result (λ v. v.now ≡ take (length v.now) (drop from self.now)) }
+    {
+        let mut skipped = from;
+        for row in &self.rows {
+            let items = row.as_slice();
+            if skipped < items.len() {
+                return Some(&items[skipped..]);
+            }
+            skipped -= items.len();
+        }
+        None
     }
 
     /// So many items from the place on, where one row has them all.
     pub(crate) fn within(&self, from: usize, count: usize) -> Option<&[T]>
         ensures { IfSome result (λ v. v.now ≡ take count (drop from self.now)) }
     {
-        let mut skipped = from;
-        for row in &self.rows {
-            let items = row.as_slice();
-            if skipped < items.len() {
-                return few_from(items, skipped, count);
+        match self.row_from(from) {
+            Some(items) => {
+                if count > items.len() {
+                    return None;
+                }
+                Some(&items[..count])
             }
-            skipped -= items.len();
+            None => None,
         }
-        None
     }
 
     /// So many items from the place on.

@@ -94,7 +94,7 @@ impl Sets {
     }
 
     // How many sets are at the moment or before it.
-    fn passed_count(&self, at: u32) -> usize
+    pub(crate) fn passed_count(&self, at: u32) -> usize
         ensures bound { result ≤ length self.now }
         ensures front { take result self.now ≡ front (is_passed at) self.now }
         ensures rest { drop result self.now ≡ back (is_passed at) self.now }
@@ -103,12 +103,14 @@ impl Sets {
     }
 
     // The place behind the sets from a place on that are at the moment or before it.
-    fn passed_from(&self, from: usize, at: u32) -> usize
+    pub(crate) fn passed_from(&self, from: usize, at: u32) -> usize
         requires { from ≤ length self.now }
         ensures sorted { AreSorted set_key self.now }
         ensures low { from ≤ result }
+        ensures bound { result ≤ length self.now }
         ensures front { take (result - from) (drop from self.now)
             ≡ front (is_passed at) (drop from self.now) }
+        ensures rest { drop result self.now ≡ back (is_passed at) (drop from self.now) }
     {
         self.items.end_near(from, Bound::By(at))
     }
@@ -123,7 +125,7 @@ impl Sets {
 }
 
 // The moment of the first set from the place on, at most the horizon.
-fn next_moment(sets: &Sets, from: usize, horizon: u32) -> u32
+pub(crate) fn next_moment(sets: &Sets, from: usize, horizon: u32) -> u32
     ensures { result ≡ next_moment horizon (drop from sets.now) }
 {
     if from < sets.len() {
@@ -185,7 +187,7 @@ pub(crate) fn end_of_base(sets: &Sets, base: u32, horizon: u32) -> u32
 }
 
 // The state that the first sets leave, which are all that are at a moment or before it.
-fn state_left(sets: &Sets, base: u32, value: u32, count: usize) -> u32
+pub(crate) fn state_left(sets: &Sets, base: u32, value: u32, count: usize) -> u32
     requires ordered { AreInOrder 0 sets.now }
     requires bound { count ≤ length sets.now }
     ensures { (at : ℕ) → take count sets.now ≡ front (is_passed at) sets.now → result ≡ state_from base at value sets.now }
@@ -269,23 +271,4 @@ pub(crate) fn state_of(sets: &Sets, base: u32, value: u32, at: u32) -> u32
 {
     let count = sets.passed_count(at);
     state_left(sets, base, value, count)
-}
-
-// Up to where the state stays as it is at the moment.
-pub(crate) fn end_of(sets: &Sets, base: u32, value: u32, at: u32, to: u32) -> u32
-    requires some { at < to }
-    requires ordered { AreInOrder 0 sets.now }
-    ensures later { at < result }
-    ensures bound { result ≤ to }
-    ensures same { (t : ℕ) → at ≤ t → t < result → state_from base t value sets.now
-        ≡ state_from base at value sets.now }
-{
-    let _ = base;
-    let _ = value;
-    let count = sets.passed_count(at);
-    if count < sets.len() {
-        sets.at(count).at.min(to)
-    } else {
-        to
-    }
 }

@@ -4,4 +4,5 @@ mod laws;
 mod replacement;
 
 pub use laws::laws_of_plan_changes;
+pub(crate) use replacement::come_again;
 pub use replacement::{next_after, replace};

@@ -130,11 +130,11 @@ fn change_due(
     requires whole { IsWhole board.old.state }
     requires can { CanChange board.old.state change }
     requires listed { schedule.old.due.items ≡ due_in board.old.state }
-    requires ahead { IsAhead board.old.state schedule.old.ahead }
+    requires ahead { IsAhead board.old.state schedule.old.ahead schedule.old.ranges.items }
     ensures ok { OnOk result (board.new ≡ board_of (changed change board.old.state)) }
     ensures keeps { OnOk result (KeepsStanding board.old.state board.new.state) }
     ensures due { OnOk result (schedule.new.due.items ≡ due_in board.new.state) }
-    ensures ahead { OnOk result (IsAhead board.new.state schedule.new.ahead) }
+    ensures ahead { OnOk result (IsAhead board.new.state schedule.new.ahead schedule.new.ranges.items) }
     ensures same { OnErr result (schedule.new.due.items ≡ schedule.old.due.items) }
     ensures err { OnErr result (board.new.spoiled ≡ true) }
 {
@@ -163,12 +163,12 @@ fn push_change(
     requires whole { IsWhole board.old.state }
     requires can { CanChange board.old.state change }
     requires listed { schedule.old.due.items ≡ due_in board.old.state }
-    requires ahead { IsAhead board.old.state schedule.old.ahead }
+    requires ahead { IsAhead board.old.state schedule.old.ahead schedule.old.ranges.items }
     ensures ok { OnOk result (log.new.items ≡ log.old.items ++ record { event = event; reply = Reply.Done } ∷ []) }
     ensures changed { OnOk result (board.new ≡ board_of (changed change board.old.state)) }
     ensures keeps { OnOk result (KeepsStanding board.old.state board.new.state) }
     ensures due { OnOk result (schedule.new.due.items ≡ due_in board.new.state) }
-    ensures ahead { OnOk result (IsAhead board.new.state schedule.new.ahead) }
+    ensures ahead { OnOk result (IsAhead board.new.state schedule.new.ahead schedule.new.ranges.items) }
     ensures err { OnErr result (log.new.items ≡ log.old.items) }
     ensures same { OnErr result (schedule.new.due.items ≡ schedule.old.due.items) }
     ensures spoils { OnErr result (board.new.spoiled ≡ true) }

@@ -1,5 +1,6 @@
 ghost use Rattle.std.specs.Prelude.{◌≡◌, false, drop, IfOk};
 
+use crate::found::Found;
 use crate::machine::Machine;
 use crate::schedule::Schedule;
 use pl_entry::Entry;
@@ -30,10 +31,13 @@ impl Schedule {
     fn copy(&self, alloc: Global) -> Result<Schedule, AllocError>
         ensures due { IfOk result (λ s. s.due.items ≡ self.now.due.items) }
         ensures ahead { IfOk result (λ s. s.ahead ≡ self.now.ahead) }
+        ensures ranges { IfOk result (λ s. s.ranges.items ≡ self.now.ranges.items) }
     {
         Ok(Schedule {
             due: Vec::from_slice(alloc, &self.due)?,
             ahead: self.ahead,
+            ranges: Vec::from_slice(alloc, &self.ranges)?,
+            found: Found::new(alloc),
         })
     }
 }

@@ -1,11 +1,11 @@
 -- What is kept after each step, and after a replacement.
 use Rattle.std.proofs.Common.{◌≡◌, ℕ, eqb, Bool, true, false, List, [], ◌∷◌, ◌++◌, map, refl, sym, ap, ◌∙◌, subst}
-use Rattle.std.specs.Prelude.{Option, Some, None, if◌then◌else◌}
+use Rattle.std.specs.Prelude.{◌||◌, Option, Some, None, if◌then◌else◌}
 use Rattle.std.specs.Option.{option_or, option_map}
 use Rattle.std.proofs.lemmas.List.Folds.{list_any-append}
+use Rattle.std.proofs.lemmas.List.{map-append}
 use Rattle.pl_lists.proofs.Tests.{or_first_false, or_second_false}
 use Rattle.pl_plan.specs.declared.activity.Activity.{Activity}
-use Rattle.pl_plan.specs.declared.evaluated.Evaluated.{Evaluated}
 use Rattle.pl_plan.specs.Activities.{activity_of}
 use Rattle.pl_plan.specs.Trees.{id_of}
 use Rattle.pl_plan.specs.Values.{values_of}
@@ -14,10 +14,11 @@ use Rattle.pl_semantics.specs.declared.plan_state.PlanState.{PlanState}
 use Rattle.pl_semantics.specs.PlanStates.{among}
 use Rattle.pl_semantics.specs.Whole.{IsWhole}
 use Rattle.pl_semantics.proofs.Found.{found_id}
+use Rattle.pl_update.specs.Changes.Renewed.{ComeAgain}
 use Rattle.pl_update.specs.Changes.Replaced.{replaced, CanReplace}
 use Rattle.pl_update.proofs.AboutChanges.Putting.{puttable}
 use Rattle.pl_update.proofs.AboutChanges.Finding.{found-replaced}
-use Rattle.pl_update.specs.Evaluations.Kept.{kept_at, comes_to, come_to, AreOf, KeepsUp}
+use Rattle.pl_update.specs.Evaluations.Kept.{Entries, kept_at, comes_to, come_to, AreOf, KeepsUp}
 
 -- ---- numbers among others
 
@@ -67,7 +68,7 @@ module _ (s : PlanState) (gone : List ℕ) (more : List Activity) (whole : IsWho
           ∙ ap (λ n. Some (record { values = values_of s.model s.plan.activities n; amounts = amounts_of s.model s.plan.activities n; end = end_of s.model s.plan.activities n })) (sym is)
 
   -- by what is kept of those that come, of those that go alone, and of the others
-  kept_after : (old new : List (ℕ × Evaluated)) → AreOf s old
+  kept_after : (old new : Entries) → AreOf s old
       → ((q : ℕ) → kept_at q new ≡ (if among q (map id_of more) then come_to s.model now q else (if among q gone then None else kept_at q old)))
       → (q : ℕ) → kept_at q new ≡ come_to s.model now q
   kept_after old new are is q = is q ∙ by (among q (map id_of more)) refl (among q gone) refl
@@ -77,13 +78,25 @@ module _ (s : PlanState) (gone : List ℕ) (more : List Activity) (whole : IsWho
       by false e true f = sym (goes q f e)
       by false e false f = are.each q ∙ sym (stays q f e)
 
-pub keeps_up : (t : PlanState) (gone : List ℕ) (more : List Activity) (old rest new : List (ℕ × Evaluated))
-    → ((q : ℕ) → kept_at q rest ≡ (if among q gone then None else kept_at q old))
+-- those that go and come again are among those that come
+pub away_from_gone : (gone : List ℕ) (more first rest : List Activity) → ComeAgain gone more first rest → (q : ℕ) → among q (map id_of more) ≡ false → among q gone ≡ false
+away_from_gone gone more first rest come q away =
+    let apart : (among q (map id_of first) || among q (map id_of rest)) ≡ false =
+    sym (list_any-append (λ i. eqb i q) (map id_of first) (map id_of rest)) ∙ ap (λ l. among q l) (sym (map-append id_of first rest)) ∙ ap (λ l. among q (map id_of l)) (sym come.whole) ∙ away in
+    ap (λ l. among q l) come.ids ∙ or_first_false (among q (map id_of first)) (among q (map id_of rest)) apart
+
+pub keeps_up : (t : PlanState) (gone : List ℕ) (more : List Activity) (old rest new : Entries)
+    → ((q : ℕ) → among q (map id_of more) ≡ false → kept_at q rest ≡ (if among q gone then None else kept_at q old))
     → ((q : ℕ) → kept_at q new ≡ (if among q (map id_of more) then come_to t.model t.plan.activities q else kept_at q rest))
     → KeepsUp t gone more old new
 keeps_up t gone more old rest new left kept s whole can is are =
     subst (λ (u : PlanState). ((q : ℕ) → kept_at q new ≡ (if among q (map id_of more) then come_to u.model u.plan.activities q else kept_at q rest)) → AreOf u new) (sym is)
-    (λ here. record { each = kept_after s gone more whole can old new are (λ q. here q ∙ ap (λ o. if among q (map id_of more) then come_to s.model (replaced s.plan.activities gone more) q else o) (left q)) }) kept
+    (λ here. record { each = kept_after s gone more whole can old new are (λ q. here q ∙ by q (among q (map id_of more)) refl) }) kept
+  where
+    by : (q : ℕ) (b : Bool) → among q (map id_of more) ≡ b
+        → (if b then come_to s.model (replaced s.plan.activities gone more) q else kept_at q rest) ≡ (if b then come_to s.model (replaced s.plan.activities gone more) q else (if among q gone then None else kept_at q old))
+    by q true e = refl
+    by q false e = left q e
 
 -- nothing is kept where nothing is planned
 pub are_none : (s : PlanState) → s.plan.activities ≡ [] → AreOf s []

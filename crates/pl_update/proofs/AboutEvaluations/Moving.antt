@@ -23,7 +23,7 @@ use Rattle.pl_semantics.proofs.Found.{found_id}
 use Rattle.pl_update.specs.Changes.Replaced.{replaced, CanReplace}
 use Rattle.pl_update.proofs.AboutChanges.Putting.{puttable}
 use Rattle.pl_update.proofs.AboutChanges.Finding.{found-replaced}
-use Rattle.pl_update.specs.Evaluations.Kept.{kept_at, comes_to, come_to, AreOf}
+use Rattle.pl_update.specs.Evaluations.Kept.{Entries, kept_at, comes_to, come_to, AreOf}
 use Rattle.pl_update.specs.Evaluations.Shifted.{still, AreStill, IsElsewhere, IsShift, start_before, moved, KeepsShifted}
 use Rattle.pl_update.proofs.AboutEvaluations.Coming.{AreOnce, once_head, once_tail}
 use Rattle.pl_update.proofs.AboutEvaluations.Still.{values_still}
@@ -215,12 +215,12 @@ module _ (s : PlanState) (gone : List ℕ) (more : List Activity) (whole : IsWho
       ∙ ap (λ e. Some (record { values = values_of s.model ys q; amounts = amounts_of s.model ys q; end = e })) end
       ∙ ap (λ n. Some (record { values = values_of s.model ys n; amounts = amounts_of s.model ys n; end = end_of s.model ys n })) (sym is_a))
 
-  kept_shifted : (old new : List (ℕ × Evaluated)) → AreOf s old → ((q : ℕ) → kept_at q new ≡ shifted_at xs q (kept_at q old) more) → (q : ℕ) → kept_at q new ≡ come_to s.model ys q
+  kept_shifted : (old new : Entries) → AreOf s old → ((q : ℕ) → kept_at q new ≡ shifted_at xs q (kept_at q old) more) → (q : ℕ) → kept_at q new ≡ come_to s.model ys q
   kept_shifted old new are is q = is q ∙ ap (λ o. shifted_at xs q o more) (are.each q) ∙ by (activity_of q more) refl
     where
       by : (o : Option Activity) → activity_of q more ≡ o → shifted_at xs q (come_to s.model xs q) more ≡ come_to s.model ys q
       by None e = untouched xs q more (come_to s.model xs q) e ∙ kept_same q e
       by (Some a) e = shifted_once xs q more (come_to s.model xs q) a can.once e ∙ kept_moved q a e
 
-pub keeps_shifted : (s : PlanState) (more : List Activity) (old new : List (ℕ × Evaluated)) → ((q : ℕ) → kept_at q new ≡ shifted_at s.plan.activities q (kept_at q old) more) → KeepsShifted s more old new
+pub keeps_shifted : (s : PlanState) (more : List Activity) (old new : Entries) → ((q : ℕ) → kept_at q new ≡ shifted_at s.plan.activities q (kept_at q old) more) → KeepsShifted s more old new
 keeps_shifted s more old new is gone whole can shift are = record { each = kept_shifted s gone more whole can shift old new are is }

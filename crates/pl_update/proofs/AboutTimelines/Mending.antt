@@ -48,11 +48,11 @@ unchanged o w c n is no_went no_came = is ∙ rw (no_went, no_came) (kept o)
 
 module _ (s : PlanState) (lines : List Line) (i : ℕ) (l l' : Line) (went came all all' : List Conflict) where
   pub mended_line : slice_get lines i ≡ Some l → HoldsNamed s i l → HoldsNamed s i l' → IsExchanged (wrong_with s i l) (wrong_with s i l') went came
-      → ((q : Conflict) → has q all' ≡ ((has q all && not (has q went)) || has q came)) → AreInOrder all' → IsMended s lines (set lines i l') all all'
+      → ((q : Conflict) → has q all' ≡ ((has q all && not (has q went)) || has q came)) → (AreInOrder all → AreInOrder all') → IsMended s lines (set lines i l') all all'
   mended_line at named named' told members ordered = record {
     told = λ t q own. by t q own (owner_of s q) refl;
     others = λ q other. unchanged (has q all) (has q went) (has q came) (has q all') (members q) (false_from_ne_true (has q went) (λ e. other (went_about q e).1)) (false_from_ne_true (has q came) (λ e. other (came_about q e).1));
-    sorted = λ o. ordered;
+    sorted = ordered;
   }
     where
       went_about : (q : Conflict) → has q went ≡ true → IsAbout s i q

@@ -1,9 +1,10 @@
 -- What is kept of activities by their ids, and when that is what they come to.
 use Rattle.std.specs.Prelude.{◌≡◌, ℕ, List, Option}
 use Rattle.std.specs.Option.{option_map}
-use Rattle.std.specs.Ordering.{nat_cmp}
+use Rattle.std.specs.Ordering.{is_eq, nat_cmp}
+use Rattle.std.specs.declared.cmp.Ordering.{Ordering}
 use Rattle.std.specs.Map.{lookup}
-use Rattle.std.specs.BTreeMap.{is_at}
+use Rattle.std.specs.declared.cmp.Reverse.{Reverse}
 use Rattle.pl_model.specs.declared.whole.Model.{Model}
 use Rattle.pl_plan.specs.declared.activity.Activity.{Activity}
 use Rattle.pl_plan.specs.declared.evaluated.Evaluated.{Evaluated}
@@ -14,9 +15,17 @@ use Rattle.pl_semantics.specs.declared.plan_state.PlanState.{PlanState}
 use Rattle.pl_semantics.specs.Whole.{IsWhole}
 use Rattle.pl_update.specs.Changes.Replaced.{CanReplace, with_plan}
 
+-- entries, each an id with what is kept under it, from the greatest id down
+abbrev pub Entries : Type 0
+Entries = List (Reverse ℕ × Evaluated)
+
+-- the order of ids from the greatest down
+abbrev pub down : Reverse ℕ → Reverse ℕ → Ordering
+down one other = nat_cmp other.0 one.0
+
 -- what is kept under an id
-abbrev pub kept_at : ℕ → List (ℕ × Evaluated) → Option Evaluated
-kept_at id kept = lookup (is_at (nat_cmp id)) kept
+abbrev pub kept_at : ℕ → Entries → Option Evaluated
+kept_at id kept = lookup (λ (other : Reverse ℕ). is_eq (nat_cmp other.0 id)) kept
 
 -- the values of an activity's parameters, the amounts of its reservations, and its end
 abbrev pub comes_to : Model → List Activity → Activity → Evaluated
@@ -27,13 +36,13 @@ abbrev pub come_to : Model → List Activity → ℕ → Option Evaluated
 come_to model activities id = option_map (comes_to model activities) (activity_of id activities)
 
 -- under each id what its activity comes to is kept, and nothing where there is none
-pub record AreKept (model : Model) (activities : List Activity) (kept : List (ℕ × Evaluated)) : Type 0 where
+pub record AreKept (model : Model) (activities : List Activity) (kept : Entries) : Type 0 where
   pub each : (id : ℕ) → kept_at id kept ≡ come_to model activities id
 
 -- what is kept is what the activities of this state come to
-abbrev pub AreOf : PlanState → List (ℕ × Evaluated) → Type 0
+abbrev pub AreOf : PlanState → Entries → Type 0
 AreOf s kept = AreKept s.model s.plan.activities kept
 
 -- Where a replacement led to this state, and what was kept was that of the state before it, what is kept now is that of this one.
-abbrev pub KeepsUp : PlanState → List ℕ → List Activity → List (ℕ × Evaluated) → List (ℕ × Evaluated) → Type 0
+abbrev pub KeepsUp : PlanState → List ℕ → List Activity → Entries → Entries → Type 0
 KeepsUp s gone placed old new = (before : PlanState) → IsWhole before → CanReplace before gone placed → s ≡ with_plan gone placed before → AreOf before old → AreOf s new

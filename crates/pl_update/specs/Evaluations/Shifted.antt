@@ -8,7 +8,7 @@ use Rattle.pl_plan.specs.Trees.{id_of}
 use Rattle.pl_semantics.specs.declared.plan_state.PlanState.{PlanState}
 use Rattle.pl_semantics.specs.Whole.{IsWhole}
 use Rattle.pl_update.specs.Changes.Replaced.{CanReplace, with_plan}
-use Rattle.pl_update.specs.Evaluations.Kept.{AreOf}
+use Rattle.pl_update.specs.Evaluations.Kept.{Entries, AreOf}
 
 -- an activity without its start
 abbrev pub still : Activity → Activity
@@ -36,5 +36,5 @@ abbrev pub moved : ℕ → ℕ → Evaluated → Evaluated
 moved from to e = record e { end = option_map (λ m. min (to + (m - from)) 4294967295) e.end }
 
 -- Where a replacement is a shift, and what was kept was that of the state before it, what is kept now is that of the state after it.
-abbrev pub KeepsShifted : PlanState → List Activity → List (ℕ × Evaluated) → List (ℕ × Evaluated) → Type 0
+abbrev pub KeepsShifted : PlanState → List Activity → Entries → Entries → Type 0
 KeepsShifted s placed old new = (gone : List ℕ) → IsWhole s → CanReplace s gone placed → IsShift s.plan.activities gone placed → AreOf s old → AreOf (with_plan gone placed s) new

@@ -66,13 +66,13 @@ fn renew_all(alloc: Global, plan: &mut Plan, placed: &[Activity]) -> Result<(), 
 
 /// Activities that come in the places of those that go, and the others that come.
 #[derive(Drop)]
-struct Renewal<'a> {
+pub(crate) struct Renewal<'a> {
     first: &'a [Activity],
     rest: &'a [Activity],
 }
 
 // The activities that come again, where those that go are just the first of those that come.
-fn come_again<'a>(gone: &[u32], placed: &'a [Activity]) -> Option<Renewal<'a>>
+pub(crate) fn come_again<'a>(gone: &[u32], placed: &'a [Activity]) -> Option<Renewal<'a>>
     ensures { IfSome result (λ r. ComeAgain gone.now placed.now r.first.now r.rest.now) }
 {
     if placed.len() < gone.len() {

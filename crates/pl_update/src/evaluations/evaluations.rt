@@ -7,19 +7,20 @@ ghost use Rattle.pl_update.specs.Evaluations.Shifted.{moved};
 use pl_lists::Copied;
 use pl_plan::Evaluated;
 use std::alloc::{AllocError, Global};
+use std::cmp::Reverse;
 use std::collections::BTreeMap;
 
 /// What activities come to, by their ids.
 #[derive(Drop)]
 pub struct Evaluations {
-    by_id: BTreeMap<u32, Evaluated>,
+    // The greatest id comes first: a map is searched from its front, and most look-ups are for new activities.
+    by_id: BTreeMap<Reverse<u32>, Evaluated>,
 }
 
 impl std::marker::Model for Evaluations {
-    ghost use Rattle.std.specs.Prelude.{ℕ, List};
-    ghost use Rattle.pl_plan.specs.declared.evaluated.Evaluated.{Evaluated};
+    ghost use Rattle.pl_update.specs.Evaluations.Kept.{Entries};
 
-    ghost Value = { List (ℕ × Evaluated) };
+    ghost Value = { Entries };
 
     ghost view = { λ e. e.by_id.entries };
 }
@@ -47,14 +48,14 @@ impl Evaluations {
         ensures kept { option_copied result ≡ kept_at id self.now }
         ensures of_state { (s : PlanState) → AreOf s self.now → option_copied result ≡ come_to s.model s.plan.activities id }
     {
-        self.by_id.get(&id)
+        self.by_id.get(&Reverse(id))
     }
 
     /// Keeps this under the id, in place of what was kept there.
     pub(crate) fn keep(&mut self, id: u32, evaluated: Evaluated) -> Result<(), AllocError>
         ensures { OnOk result ((q : ℕ) → kept_at q self.new ≡ (if id == q then Some evaluated else kept_at q self.old)) }
     {
-        self.by_id.insert(id, evaluated)?;
+        self.by_id.insert(Reverse(id), evaluated)?;
         Ok(())
     }
 
@@ -62,14 +63,14 @@ impl Evaluations {
     pub(crate) fn forget(&mut self, id: u32)
         ensures { (q : ℕ) → kept_at q self.new ≡ (if id == q then None else kept_at q self.old) }
     {
-        self.by_id.remove(&id);
+        self.by_id.remove(&Reverse(id));
     }
 
     /// Moves the end that is kept under the id along with the start.
     pub(crate) fn move_end(&mut self, id: u32, from: u32, to: u32)
         ensures { (q : ℕ) → kept_at q self.new ≡ (if id == q then option_map (moved from to) (kept_at q self.old) else kept_at q self.old) }
     {
-        if let Some(evaluated) = self.by_id.get_mut(&id) {
+        if let Some(evaluated) = self.by_id.get_mut(&Reverse(id)) {
             move_along(evaluated, from, to);
         }
     }

@@ -1,11 +1,12 @@
 //! A change of the plan state, and what it leaves kept.
-ghost use Rattle.std.specs.Prelude.{◌≡◌, ◌==◌, ℕ, None, Some, All, OnOk, map, if◌then◌else◌};
+ghost use Rattle.std.specs.Prelude.{◌≡◌, ◌==◌, ℕ, false, None, Some, All, OnOk, map, if◌then◌else◌};
 ghost use Rattle.pl_plan.specs.Activities.{activity_of};
 ghost use Rattle.pl_plan.specs.Trees.{id_of};
 ghost use Rattle.pl_semantics.specs.PlanStates.{among};
 ghost use Rattle.pl_semantics.specs.Whole.{IsWhole};
 ghost use Rattle.pl_update.specs.Evaluations.Kept.{kept_at, come_to, KeepsUp};
 
+use crate::changes::come_again;
 use crate::evaluations::evaluations::Evaluations;
 use pl_plan::Activity;
 use pl_semantics::PlanState;
@@ -17,6 +18,16 @@ impl Evaluations {
     {
         for id in gone {
             self.forget(*id);
+        }
+    }
+
+    // Keeps nothing under those that go. Where they come again, what is kept under them is replaced as they come.
+    fn forget_gone(&mut self, gone: &[u32], placed: &[Activity])
+        ensures { (q : ℕ) → among q (map id_of placed.now) ≡ false → kept_at q self.new ≡ (if among q gone.now then None else kept_at q self.old) }
+    {
+        match come_again(gone, placed) {
+            Some(_) => {}
+            None => self.forget_all(gone),
         }
     }
 
@@ -60,7 +71,7 @@ impl Evaluations {
         requires live { All (λ a. activity_of a.id s.now.plan.activities ≡ Some a) placed.now }
         ensures { OnOk result (KeepsUp s.now gone.now placed.now self.old self.new) }
     {
-        self.forget_all(gone);
+        self.forget_gone(gone, placed);
         self.evaluate_all(alloc, s, placed)?;
         Ok(())
     }

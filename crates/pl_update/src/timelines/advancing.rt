@@ -51,7 +51,7 @@ impl Lines {
         let alloc = self.alloc;
         let line = &mut self.all[number as usize];
         let exchange = line.advance(alloc, s, number, now, steps)?;
-        set.exchange(&exchange.went, &exchange.came)?;
+        exchange.apply_to(set)?;
         Ok(())
     }
 
@@ -74,7 +74,7 @@ impl Lines {
         let alloc = self.alloc;
         let line = &mut self.all[number as usize];
         let exchange = line.rebase(alloc, s, number, value, steps)?;
-        set.exchange(&exchange.went, &exchange.came)?;
+        exchange.apply_to(set)?;
         Ok(())
     }
 }

@@ -71,7 +71,7 @@ impl Lines {
         let alloc = self.alloc;
         let line = &mut self.all[demand.line as usize];
         let exchange = line.take(alloc, s, demand.line, demand.asked, steps)?;
-        set.exchange(&exchange.went, &exchange.came)?;
+        exchange.apply_to(set)?;
         Ok(())
     }
 
@@ -92,7 +92,7 @@ impl Lines {
         let alloc = self.alloc;
         let line = &mut self.all[demand.line as usize];
         let exchange = line.give(alloc, s, demand.line, demand.asked, steps)?;
-        set.exchange(&exchange.went, &exchange.came)?;
+        exchange.apply_to(set)?;
         Ok(())
     }
 }

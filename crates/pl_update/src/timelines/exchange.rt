@@ -1,5 +1,8 @@
 //! Which conflicts leave a timeline, and which come, as it changes.
-ghost use Rattle.std.specs.Prelude.{◌++◌, List, map, IfOk};
+ghost use Rattle.std.specs.Prelude.{◌≡◌, ◌++◌, ◌&&◌, ◌||◌, not, List, map, IfOk, OnOk};
+ghost use Rattle.pl_conflict.specs.declared.conflict.Conflict.{Conflict};
+ghost use Rattle.pl_conflict.specs.Order.{has};
+ghost use Rattle.pl_conflict.specs.Sorting.{AreInOrder};
 ghost use Rattle.pl_points.specs.declared.span.Span.{Span};
 ghost use Rattle.pl_points.specs.Changes.{IsChange};
 ghost use Rattle.pl_level.specs.Soundness.{AreChanges as AreLevelChanges};
@@ -9,7 +12,7 @@ ghost use Rattle.pl_state.specs.Timelines.{AreChanges};
 ghost use Rattle.pl_semantics.specs.Timelines.{outside, unmet_must, bad_step};
 ghost use Rattle.pl_update.specs.Timelines.Changed.{IsExchanged};
 
-use pl_conflict::{Code, Conflict};
+use pl_conflict::{Code, Conflict, ConflictSet};
 use pl_detect::{add_bad_steps, add_musts, add_outside};
 use pl_level::LevelChange;
 use pl_points::Change;
@@ -22,6 +25,20 @@ use std::alloc::{AllocError, Global};
 pub(crate) struct Exchange {
     pub(crate) went: Vec<Conflict>,
     pub(crate) came: Vec<Conflict>,
+}
+
+impl Exchange {
+    /// Takes out of the set what went, and puts in what came. Mostly there is nothing of either.
+    pub(crate) fn apply_to(&self, set: &mut ConflictSet) -> Result<(), AllocError>
+        ensures members { OnOk result ((q : Conflict) → has q set.new ≡ ((has q set.old && not (has q self.now.went.items)) || has q self.now.came.items)) }
+        ensures sorted { OnOk result (AreInOrder set.old → AreInOrder set.new) }
+    {
+        if self.went.is_empty() && self.came.is_empty() {
+            return Ok(());
+        }
+        set.exchange(&self.went, &self.came)?;
+        Ok(())
+    }
 }
 
 /// The conflicts of a capacity's spans.

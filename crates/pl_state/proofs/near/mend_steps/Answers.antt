@@ -1,5 +1,6 @@
-use Rattle.std.proofs.Common.{◌≡◌, ◌+◌, ◌-◌, ◌++◌, length, take, drop, arith, ap, sym, ◌∙◌, subst}
-use Rattle.std.proofs.lemmas.List.{take_rest}
+use Rattle.std.proofs.Common.{◌≡◌, ◌+◌, ◌-◌, [], ◌++◌, length, take, drop, arith, ap, sym, ◌∙◌, subst}
+use Rattle.std.proofs.lemmas.Bool.{eqb-true}
+use Rattle.std.proofs.lemmas.List.{take_rest, nil_from_length}
 use Rattle.pl_lists.specs.Lists.{front, back}
 use Rattle.pl_state.specs.Keys.{AreSorted}
 use Rattle.pl_state.specs.Sets.{is_allowed}
@@ -7,11 +8,19 @@ use Rattle.pl_state.specs.Sorted.{bad_key}
 use Rattle.pl_state.specs.Timelines.{same_bad}
 use Rattle.pl_state.specs.Near.{bad_before, bad_by, AreBadInOrder}
 use Rattle.pl_state.specs.Present.{bad_at}
-use Rattle.pl_state.proofs.Steps.{bad_order_drop}
+use Rattle.pl_state.proofs.Steps.{bad_order_drop, none_told}
 use Rattle.pl_state.proofs.Grouping.{bad_itself}
 use Rattle.pl_state.proofs.Sorting.{bad_sorted, sorted_rising, knows_bad}
 use Rattle.pl_state.proofs.Changing.{exchanged_went, exchanged_came, steps_mended}
 use Rattle.pl_state.proofs.near.mend_steps.Goals as goal
+
+pub returns-then-is_empty-clause-bad : goal.returns-then-is_empty-clause-bad
+returns-then-is_empty-clause-bad c =
+    let p = c.args.present in
+    let steps = c.args.steps.now in
+    let zero : c.args.bad.now.len ≡ 0 = eqb-true c.args.bad.now.len 0 (sym c.is_empty.ensures ∙ c.if-is_empty.true) in
+    let none : c.args.bad.now.items ≡ [] = nil_from_length c.args.bad.now.items (omega (arith, c.args.bad.now.ok, zero)) in
+    none ∙ sym (ap (λ any. bad_at any steps p c.args.sets.now) c.if-any.true ∙ none_told steps p.base p.horizon p.moment p.value c.args.sets.now)
 
 pub begun_count-begin-requires : goal.begun_count-begin-requires
 begun_count-begin-requires c = subst (λ l. AreBadInOrder 0 l) (sym c.deref.ensures.value) (sorted_rising c.args.bad.now.items c.requires.sorted)

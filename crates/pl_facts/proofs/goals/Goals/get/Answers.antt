@@ -1,7 +1,7 @@
-use Rattle.std.proofs.Common.{◌≡◌, sym, ◌∙◌, refl}
+use Rattle.std.proofs.Common.{◌≡◌, sym, ◌∙◌, refl, arith}
 use Rattle.std.specs.Prelude.{Some, None, position}
 use Rattle.pl_facts.specs.Goals.{is_numbered}
-use Rattle.pl_facts.proofs.Finding.{find-None}
+use Rattle.pl_facts.proofs.Finding.{find-None, within_list}
 use Rattle.pl_facts.proofs.Numbered.{absent, found}
 use Rattle.pl_facts.proofs.goals.Goals.get.Goals as goal
 
@@ -10,6 +10,11 @@ missing c = sym (c.self.invariant.placed c.args.number) ∙ sym c.in_err-place.e
 
 placed : (c : goal.After-index) → position (is_numbered c.args.number) c.self.inside.goals.items ≡ Some c.in_ok-place.place.now
 placed c = sym (c.self.invariant.placed c.args.number) ∙ sym c.in_ok-place.ensures.value
+
+pub index-requires : goal.index-requires
+index-requires c =
+    let below = within_list (is_numbered c.args.number) c.self.inside.goals.items c.in_ok-place.place.now (sym (c.self.invariant.placed c.args.number) ∙ sym c.in_ok-place.ensures.value) in
+    omega (arith, below, c.self.inside.goals.ok.0)
 
 pub returns-in_err-place-clause-goal : goal.returns-in_err-place-clause-goal
 returns-in_err-place-clause-goal c = rw (← c.self.view_is, c.from_residual.ensures) (sym (find-None (is_numbered c.args.number) c.self.inside.goals.items (missing c)))

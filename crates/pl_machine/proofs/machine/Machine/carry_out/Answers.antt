@@ -21,7 +21,7 @@ invariant_of-self c = rw (c.in_err-push_change.ensures.err, c.in_err-push_change
 pub invariant_of-self-2 : goal.invariant_of-self-2
 invariant_of-self-2 c =
     rw c.in_ok-push_change.ensures.ok
-    (sound_carried c.args.self.now _ c.args.round _ _ _ c.args.change c.args.event c.self.view_is c.self.invariant refl c.requires.open c.requires.event c.requires.reply c.requires.answers
+    (sound_carried c.args.self.now _ c.args.round _ _ _ _ c.args.change c.args.event c.self.view_is c.self.invariant refl c.requires.open c.requires.event c.requires.reply c.requires.answers
     c.in_ok-push_change.ensures.keeps c.in_ok-push_change.ensures.due c.in_ok-push_change.ensures.ahead (ap (λ (b : Standing). b.state) c.in_ok-push_change.ensures.changed) c.requires.leaves c.requires.turn)
 
 pub returns : goal.returns

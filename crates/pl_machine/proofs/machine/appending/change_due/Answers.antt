@@ -12,8 +12,8 @@ keep_up-requires-clause-listed c = rw c.state.ensures.value (rw c.in_ok-change_b
 pub keep_up-requires-clause-ahead : goal.keep_up-requires-clause-ahead
 keep_up-requires-clause-ahead c =
     rw c.state.ensures.value
-    (rw c.in_ok-change_board.ensures.ok (rw c.ahead_after-ahead.ensures (ahead_ticks c.args.board.now.state c.args.change c.args.schedule.now.ahead (sym c.if-ticks.ensures) c.requires.ahead)))
+    (rw c.in_ok-change_board.ensures.ok (rw c.ahead_after-ahead.ensures (ahead_ticks c.args.board.now.state c.args.change c.args.schedule.now.ahead c.args.schedule.now.ranges.items (sym c.if-ticks.ensures) c.requires.ahead)))
 
 pub returns-else-ticks-clause-ahead : goal.returns-else-ticks-clause-ahead
 returns-else-ticks-clause-ahead c =
-    ahead_on c.args.board.now.state c.args.change c.args.schedule.now.ahead _ _ c.in_ok-change_board.ensures.ok c.ahead_after-ahead.ensures (sym c.if-ticks.ensures) c.requires.whole c.requires.can c.requires.ahead
+    ahead_on c.args.board.now.state c.args.change c.args.schedule.now.ahead _ c.args.schedule.now.ranges.items _ c.in_ok-change_board.ensures.ok c.ahead_after-ahead.ensures (sym c.if-ticks.ensures) c.requires.whole c.requires.can c.requires.ahead

@@ -9,4 +9,4 @@ returns-then-state-self-clause-due c =
     due_still c.args.board.now.state c.args.before c.args.self.now.ahead.next_start c.args.self.now.due.items c.requires.listed c.requires.later (subst (λ (s : PlanState). s.moment < c.args.self.now.ahead.next_start) c.state.ensures.value c.if-state-self.true) c.requires.ahead.calm
 
 pub returns-then-state-self-clause-ahead : goal.returns-then-state-self-clause-ahead
-returns-then-state-self-clause-ahead c = ahead_later c.args.board.now.state c.args.before c.args.self.now.ahead c.requires.later c.requires.ahead
+returns-then-state-self-clause-ahead c = ahead_later c.args.board.now.state c.args.before c.args.self.now.ahead c.args.self.now.ranges.items c.requires.later c.requires.ahead

@@ -24,10 +24,10 @@ returns-clause-mended g c =
     let l : Line = c.index_mut-line.result.now in
     let at : slice_get c.args.self.now c.args.demand.line ≡ Some l = line_here c.self.inside.all.items c.args.self.now c.args.demand l c.self.view_is c.requires.asked.sort c.index_mut-line.ensures.value in
     let named = c.requires.named c.args.demand.line l at in
-    subst (λ (xs : List Line). IsMended c.args.s.now c.args.self.now (set xs c.args.demand.line c.give.new.self) c.args.set.now c.exchange.new.self) (sym c.self.view_is)
-    (mended_line c.args.s.now c.args.self.now c.args.demand.line l c.give.new.self c.in_ok-exchange.exchange.went.items c.in_ok-exchange.exchange.came.items c.args.set.now c.exchange.new.self
+    subst (λ (xs : List Line). IsMended c.args.s.now c.args.self.now (set xs c.args.demand.line c.give.new.self) c.args.set.now c.apply_to.new.set) (sym c.self.view_is)
+    (mended_line c.args.s.now c.args.self.now c.args.demand.line l c.give.new.self c.in_ok-exchange.exchange.went.items c.in_ok-exchange.exchange.came.items c.args.set.now c.apply_to.new.set
     at named (c.in_ok-exchange.ensures.named c.requires.asked.named named) c.in_ok-exchange.ensures.exchanged
-    (λ q. rw (c.deref.ensures.value, c.deref-2.ensures.value) at (c.in_ok-exchange-2.ensures.members q)) c.in_ok-exchange-2.ensures.sorted)
+    c.in_ok-apply_to.ensures.members c.in_ok-apply_to.ensures.sorted)
 
 pub returns-clause-moved : goal.returns-clause-moved
 returns-clause-moved g c =
@@ -42,5 +42,5 @@ returns-clause-named g c =
     let at : slice_get c.args.self.now c.args.demand.line ≡ Some l = line_here c.self.inside.all.items c.args.self.now c.args.demand l c.self.view_is c.requires.asked.sort c.index_mut-line.ensures.value in
     let named = c.requires.named c.args.demand.line l at in
     subst (λ (xs : List Line). AreNamed c.args.s.now (set xs c.args.demand.line c.give.new.self)) (sym c.self.view_is)
-    (named_line c.args.s.now c.args.self.now c.args.demand.line l c.give.new.self c.in_ok-exchange.exchange.went.items c.in_ok-exchange.exchange.came.items c.args.set.now c.exchange.new.self
+    (named_line c.args.s.now c.args.self.now c.args.demand.line l c.give.new.self c.in_ok-exchange.exchange.went.items c.in_ok-exchange.exchange.came.items c.args.set.now c.apply_to.new.set
     c.requires.named at (c.in_ok-exchange.ensures.named c.requires.asked.named named))

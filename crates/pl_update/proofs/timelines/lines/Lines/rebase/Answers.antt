@@ -21,10 +21,10 @@ returns-clause-mended g c =
     let l : Line = c.index_mut-line.result.now in
     let at : slice_get c.args.self.now c.args.number ≡ Some l = line_at c.self.inside.all.items c.args.self.now c.args.number l c.self.view_is (has_line c.args.self.now c.args.number c.args.value c.requires.based) c.index_mut-line.ensures.value in
     let named = c.requires.named c.args.number l at in
-    subst (λ (xs : List Line). IsMended c.args.s.now c.args.self.now (set xs c.args.number c.rebase.new.self) c.args.set.now c.exchange.new.self) (sym c.self.view_is)
-    (mended_line c.args.s.now c.args.self.now c.args.number l c.rebase.new.self c.in_ok-exchange.exchange.went.items c.in_ok-exchange.exchange.came.items c.args.set.now c.exchange.new.self
+    subst (λ (xs : List Line). IsMended c.args.s.now c.args.self.now (set xs c.args.number c.rebase.new.self) c.args.set.now c.apply_to.new.set) (sym c.self.view_is)
+    (mended_line c.args.s.now c.args.self.now c.args.number l c.rebase.new.self c.in_ok-exchange.exchange.went.items c.in_ok-exchange.exchange.came.items c.args.set.now c.apply_to.new.set
     at named (subst (HoldsNamed c.args.s.now c.args.number) (sym c.in_ok-exchange.ensures.base) (named_based c.args.s.now c.args.number _ l named)) c.in_ok-exchange.ensures.exchanged
-    (λ q. rw (c.deref.ensures.value, c.deref-2.ensures.value) at (c.in_ok-exchange-2.ensures.members q)) c.in_ok-exchange-2.ensures.sorted)
+    c.in_ok-apply_to.ensures.members c.in_ok-apply_to.ensures.sorted)
 
 pub returns-clause-moved : goal.returns-clause-moved
 returns-clause-moved g c =
@@ -40,5 +40,5 @@ returns-clause-named g c =
     let at : slice_get c.args.self.now c.args.number ≡ Some l = line_at c.self.inside.all.items c.args.self.now c.args.number l c.self.view_is (has_line c.args.self.now c.args.number c.args.value c.requires.based) c.index_mut-line.ensures.value in
     let named = c.requires.named c.args.number l at in
     subst (λ (xs : List Line). AreNamed c.args.s.now (set xs c.args.number c.rebase.new.self)) (sym c.self.view_is)
-    (named_line c.args.s.now c.args.self.now c.args.number l c.rebase.new.self c.in_ok-exchange.exchange.went.items c.in_ok-exchange.exchange.came.items c.args.set.now c.exchange.new.self
+    (named_line c.args.s.now c.args.self.now c.args.number l c.rebase.new.self c.in_ok-exchange.exchange.went.items c.in_ok-exchange.exchange.came.items c.args.set.now c.apply_to.new.set
     c.requires.named at (subst (HoldsNamed c.args.s.now c.args.number) (sym c.in_ok-exchange.ensures.base) (named_based c.args.s.now c.args.number _ l named)))

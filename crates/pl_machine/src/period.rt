@@ -1,0 +1,7 @@
+/// The time that has passed since an earlier moment. What starts before `committed` is committed.
+#[derive(Clone, Copy, PartialEq, Eq)]
+pub(crate) struct Period {
+    pub(crate) before: u32,
+    pub(crate) moment: u32,
+    pub(crate) committed: u32,
+}
