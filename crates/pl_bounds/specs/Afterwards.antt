@@ -1,5 +1,5 @@
 -- What a timeline comes to once some demands went and others came.
-use Rattle.std.specs.Prelude.{◌≡◌, ℕ, ◌+◌, ◌==◌, ℤ, pos, ◌+ℤ◌, ◌-ℤ◌, Bool, List, [], ◌∷◌, map, length, if◌then◌else◌}
+use Rattle.std.specs.Prelude.{ℕ, ◌+◌, ◌==◌, ℤ, pos, ◌+ℤ◌, ◌-ℤ◌, Bool, List, [], ◌∷◌, map, length, if◌then◌else◌}
 use Rattle.pl_capacity.specs.declared.reservation.Use.{Use}
 use Rattle.pl_capacity.specs.Uses.{taken_at}
 use Rattle.pl_level.specs.declared.reservation.Effect.{Effect}

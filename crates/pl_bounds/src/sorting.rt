@@ -140,11 +140,7 @@ fn add_demands(
     Ok(())
 }
 
-fn addition_of(
-    alloc: Global,
-    asking: &Asking,
-    outside: &Outside,
-) -> Result<Addition, AllocError>
+fn addition_of(alloc: Global, asking: &Asking, outside: &Outside) -> Result<Addition, AllocError>
     ensures { IfOk result (IsAdditionOf asking.now) }
 {
     let going = asking.going.as_slice();
