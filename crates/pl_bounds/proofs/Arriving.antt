@@ -1,5 +1,5 @@
 -- What is wrong with states that what comes needs and sets stands once the replacement is made.
-use Rattle.std.proofs.Common.{◌≡◌, ℕ, ◌<◌, ◌≤◌, Bool, true, false, List, Option, Some, None, refl, sym, ap, ◌∙◌, subst, arith, ℤ, pos, negsuc}
+use Rattle.std.proofs.Common.{◌≡◌, ℕ, ◌<◌, ◌≤◌, List, Option, Some, None, refl, sym, ap, ◌∙◌, subst, arith, ℤ, pos, negsuc}
 use Rattle.std.specs.Prelude.{◌≢◌, slice_get}
 use Rattle.std.proofs.lemmas.Int.{ints}
 use Rattle.pl_conflict.specs.declared.conflict.Code.TheVariants as code
@@ -14,7 +14,7 @@ use Rattle.pl_state.specs.Keys.{Has}
 use Rattle.pl_state.specs.Sets.{is_allowed}
 use Rattle.pl_semantics.specs.declared.plan_state.PlanState.{PlanState}
 use Rattle.pl_semantics.specs.declared.demand.Demand.{Demand}
-use Rattle.pl_semantics.specs.Demands.{demands_of, sets_of, moment_of_base, since, state_at}
+use Rattle.pl_semantics.specs.Demands.{demands_of, moment_of_base, since, state_at}
 use Rattle.pl_semantics.specs.Whole.{IsWhole, IsBase}
 use Rattle.pl_update.specs.Changes.Replaced.{with_plan}
 use Rattle.pl_update.specs.Timelines.Laws.{coming_to, gone_from}

@@ -1,9 +1,8 @@
 -- A state that another activity needs and that a new set changes: a conflict tells it once the replacement is made.
-use Rattle.std.proofs.Common.{◌≡◌, ℕ, ◌+◌, ◌<◌, ◌≤◌, List, [], ◌∷◌, ◌++◌, take, length, get_or, Option, Some, refl, sym, ap, ◌∙◌, subst, arith, inl, inr}
+use Rattle.std.proofs.Common.{◌≡◌, ℕ, ◌+◌, ◌<◌, ◌≤◌, List, [], ◌∷◌, ◌++◌, take, length, get_or, sym, ◌∙◌, subst, arith, inl, inr}
 use Rattle.std.specs.Prelude.{◌≢◌, ◌⊎◌}
 use Rattle.std.proofs.lemmas.List.{take_more}
 use Rattle.pl_conflict.specs.declared.conflict.Code.TheVariants as code
-use Rattle.pl_plan.specs.declared.activity.Activity.{Activity}
 use Rattle.pl_state.specs.declared.reservation.Must.{Must}
 use Rattle.pl_state.specs.declared.reservation.Setting.{Setting}
 use Rattle.pl_state.specs.Keys.{Has}
@@ -13,8 +12,7 @@ use Rattle.pl_semantics.specs.Demands.{asked_of, must_in, demands_of, since, sta
 use Rattle.pl_semantics.specs.Whole.{IsWhole}
 use Rattle.pl_update.specs.Changes.Replaced.{with_plan}
 use Rattle.pl_update.specs.Timelines.Laws.{coming_to, gone_from}
-use Rattle.pl_bounds.specs.Exchanges.{IsExchange}
-use Rattle.pl_bounds.specs.Marks.{mark_of, Stands}
+use Rattle.pl_bounds.specs.Marks.{mark_of}
 use Rattle.pl_bounds.specs.Seen.{EachSet, IsNewLast, IsNotBehind, StandsThen}
 use Rattle.pl_bounds.specs.Settings.{musts_asked, sets_asked}
 use Rattle.pl_bounds.specs.declared.asking.Asking.{Asking}

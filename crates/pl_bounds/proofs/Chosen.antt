@@ -1,6 +1,6 @@
 -- What the choice of an alternative of a root asks of timelines, as it does where the root is alone in a plan.
-use Rattle.std.proofs.Common.{◌≡◌, ℕ, suc, ◌+◌, ◌≤◌, eqb, Bool, true, false, cond, List, [], ◌∷◌, ◌++◌, Option, Some, None, refl, sym, ap, ◌∙◌, subst, arith}
-use Rattle.std.specs.Prelude.{All, get_or, slice_get, map, length}
+use Rattle.std.proofs.Common.{◌≡◌, ℕ, suc, ◌+◌, ◌≤◌, cond, List, [], ◌∷◌, ◌++◌, Option, Some, None, refl, sym, ap, ◌∙◌, subst, arith}
+use Rattle.std.specs.Prelude.{All, get_or, slice_get}
 use Rattle.std.specs.List.{flat_map}
 use Rattle.std.specs.Option.{option_or}
 use Rattle.std.proofs.lemmas.List.Elements.{All-nil, All-cons, All-head, All-tail}
@@ -19,18 +19,17 @@ use Rattle.pl_semantics.specs.declared.demand.Demand.{Demand}
 use Rattle.pl_semantics.specs.declared.plan_state.PlanState.{PlanState}
 use Rattle.pl_semantics.specs.Demands.{demands_at, demands_of}
 use Rattle.pl_semantics.specs.Moves.{alternatives_at, applied, child_for, children_from, children_in, children_for, detailed}
-use Rattle.pl_semantics.specs.PlanStates.{among, found, row_of}
+use Rattle.pl_semantics.specs.PlanStates.{among, found}
 use Rattle.pl_semantics.specs.Whole.{IsWhole}
-use Rattle.pl_update.specs.Changes.Replaced.{with_plan}
 use Rattle.pl_update.specs.Timelines.Laws.{gone_from, coming_to}
-use Rattle.pl_moves.specs.Changes.{gone_by, placed_by}
+use Rattle.pl_moves.specs.Changes.{placed_by}
 use Rattle.pl_moves.specs.Runs.{CanBeMade}
 use Rattle.pl_moves.proofs.Made.{IsMadeBy, made}
 use Rattle.pl_bounds.specs.Askings.{without_goal}
 use Rattle.pl_bounds.specs.Choosing.{bare, chosen_alone}
 use Rattle.pl_bounds.specs.Exchanges.{IsExchange}
 use Rattle.pl_bounds.proofs.Asks.{asks, asks_found}
-use Rattle.pl_bounds.proofs.Bare.{alone, activities_alone, can_bare, children_for_same, found_bare, undone, whole_bare}
+use Rattle.pl_bounds.proofs.Bare.{activities_alone, can_bare, children_for_same, found_bare, whole_bare}
 use Rattle.pl_bounds.proofs.Made.{whole_then}
 use Rattle.pl_bounds.proofs.Summing.{can_place, once_gone, placed_is}
 

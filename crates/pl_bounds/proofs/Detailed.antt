@@ -1,12 +1,11 @@
 -- The choice of an alternative leaves what is wrong with goals and other activities, and children that lack an alternative of their own.
 use Rattle.std.proofs.Common.{◌≡◌, ℕ, zero, suc, ◌+◌, ◌<◌, ◌≤◌, eqb, Bool, true, false, cond, List, [], ◌∷◌, ◌++◌, map, filter, length, Option, Some, None, refl, sym, ap, ◌∙◌, subst, arith}
-use Rattle.std.specs.Prelude.{◌||◌, ◌&&◌, not, All, get_or}
+use Rattle.std.specs.Prelude.{◌||◌, not, All, get_or}
 use Rattle.std.specs.List.{flat_map, filter_map}
-use Rattle.std.specs.Option.{option_to_list}
 use Rattle.std.proofs.lemmas.Bool.{false_from_ne_true, or_from, le-ltb, not-true, eq-eqb, or_left, or_right}
 use Rattle.std.proofs.lemmas.List.{length-append, length-map}
 use Rattle.std.proofs.lemmas.List.Elements.{All-head, All-tail}
-use Rattle.pl_lists.proofs.Tests.{and_second, or_first_false, or_second_false}
+use Rattle.pl_lists.proofs.Tests.{and_second, or_first_false}
 use Rattle.pl_conflict.specs.declared.conflict.Conflict.{Conflict}
 use Rattle.pl_conflict.specs.declared.conflict.Code.TheVariants.{Undetailed}
 use Rattle.pl_conflict.specs.Order.{has}
@@ -19,7 +18,7 @@ use Rattle.pl_plan.specs.Index.{is_number}
 use Rattle.pl_plan.specs.Serving.{served_in, serves, is_served}
 use Rattle.pl_plan.specs.Trees.{id_of}
 use Rattle.pl_semantics.specs.declared.plan_state.PlanState.{PlanState}
-use Rattle.pl_semantics.specs.Activities.{at_start, undetailed_at, wrong_at, wrong_of}
+use Rattle.pl_semantics.specs.Activities.{at_start, undetailed_at, wrong_at}
 use Rattle.pl_semantics.specs.Conflicts.{conflicts_of}
 use Rattle.pl_semantics.specs.Legal.{MayBeMade}
 use Rattle.pl_semantics.specs.Moves.{applied, detailed, children_for}

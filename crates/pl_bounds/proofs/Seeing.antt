@@ -1,5 +1,5 @@
 -- What holds of each set that the first ones of some demands ask for holds with the next one.
-use Rattle.std.proofs.Common.{◌≡◌, ℕ, ◌+◌, ◌<◌, ◌≤◌, List, [], ◌∷◌, ◌++◌, take, length, get_or, sym, subst, inl, inr}
+use Rattle.std.proofs.Common.{ℕ, ◌+◌, ◌<◌, ◌≤◌, List, [], ◌∷◌, ◌++◌, take, length, get_or, sym, subst, inl, inr}
 use Rattle.std.specs.Prelude.{◌≢◌}
 use Rattle.std.specs.List.{flat_map}
 use Rattle.std.proofs.lemmas.List.{take_more}
@@ -9,7 +9,7 @@ use Rattle.pl_semantics.specs.declared.plan_state.PlanState.{PlanState}
 use Rattle.pl_semantics.specs.declared.demand.Demand.{Demand}
 use Rattle.pl_semantics.specs.Demands.{asked_of, set_in, state_at}
 use Rattle.pl_bounds.specs.Seen.{EachSet}
-use Rattle.pl_bounds.specs.Settings.{HangsOnNone, sets_asked}
+use Rattle.pl_bounds.specs.Settings.{HangsOnNone}
 use Rattle.pl_bounds.proofs.Having.{has_either, has_left, has_right}
 
 each_push : {S T : Type 0} (P : T → Type 0) (rule : S → List T) (xs : List S) (x : S) → ((z : T) → Has z (flat_map rule xs) → P z) → ((z : T) → Has z (flat_map rule (x ∷ [])) → P z) → (z : T) → Has z (flat_map rule (xs ++ x ∷ [])) → P z

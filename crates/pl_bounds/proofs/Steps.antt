@@ -1,7 +1,7 @@
 -- A set whose step from the state before it is not allowed: a conflict tells it.
-use Rattle.std.proofs.Common.{◌≡◌, ℕ, ◌<◌, ◌≤◌, ltb, leb, Bool, true, false, ◌&&◌, not, cond, List, [], ◌∷◌, ◌++◌, map, filter, refl, sym, ap, ◌∙◌, subst, arith, inl, inr}
-use Rattle.std.specs.Prelude.{◌||◌, ◌⊎◌, slice_get, Option, Some}
-use Rattle.std.proofs.lemmas.Bool.{and_parts, ltb-true, lt-ltb, le-leb, or_cases}
+use Rattle.std.proofs.Common.{◌≡◌, ℕ, ◌<◌, ◌≤◌, ltb, leb, Bool, true, false, cond, List, [], ◌∷◌, filter, refl, sym, ap, ◌∙◌, subst, arith, inl, inr}
+use Rattle.std.specs.Prelude.{◌||◌, slice_get, Option, Some}
+use Rattle.std.proofs.lemmas.Bool.{and_parts, ltb-true, lt-ltb, le-leb}
 use Rattle.std.proofs.Math.Bool.{or-true}
 use Rattle.pl_model.specs.declared.timelines.Timeline.{Timeline}
 use Rattle.pl_model.specs.declared.timelines.Timeline.TheVariants.{States}
@@ -20,7 +20,6 @@ use Rattle.pl_semantics.specs.declared.plan_state.PlanState.{PlanState}
 use Rattle.pl_semantics.specs.PlanStates.{natural}
 use Rattle.pl_semantics.specs.Demands.{demands_of, sets_of, since, told}
 use Rattle.pl_semantics.specs.Timelines.{bad_step, musts, bad_steps, line_conflicts}
-use Rattle.pl_semantics.specs.Conflicts.{conflicts_of}
 use Rattle.pl_bounds.specs.Marks.{mark_of, Stands}
 use Rattle.pl_bounds.specs.Settings.{HasSteps}
 use Rattle.pl_bounds.proofs.Governing.{counts, none_has, same_key}

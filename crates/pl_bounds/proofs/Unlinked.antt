@@ -1,6 +1,6 @@
 -- The choice of an alternative leaves the conflicts of links that it does not touch.
-use Rattle.std.proofs.Common.{◌≡◌, ℕ, ◌<◌, ◌≤◌, eqb, Bool, true, false, List, [], ◌∷◌, map, filter, length, Option, Some, None, refl, sym, ap, ◌∙◌, subst, arith}
-use Rattle.std.specs.Prelude.{◌||◌, ◌&&◌, All, get_or}
+use Rattle.std.proofs.Common.{◌≡◌, ℕ, ◌<◌, ◌≤◌, eqb, true, false, List, [], ◌∷◌, map, Some, None, refl, sym, ap, ◌∙◌, subst, arith}
+use Rattle.std.specs.Prelude.{All}
 use Rattle.std.proofs.lemmas.Bool.{ne_eqb, or_from}
 use Rattle.std.proofs.lemmas.List.Elements.{All-nil, All-cons, All-head, All-tail}
 use Rattle.pl_lists.proofs.Tests.{or_first_false, or_second_false}
@@ -8,7 +8,6 @@ use Rattle.pl_conflict.specs.declared.conflict.Conflict.{Conflict}
 use Rattle.pl_conflict.specs.Order.{has}
 use Rattle.pl_plan.specs.declared.activity.Activity.{Activity}
 use Rattle.pl_plan.specs.declared.repair.RepairMove.TheVariants.{Detail}
-use Rattle.pl_plan.specs.Activities.{RiseFrom}
 use Rattle.pl_plan.specs.Fitting.{fills}
 use Rattle.pl_plan.specs.Index.{is_number}
 use Rattle.pl_plan.specs.Trees.{id_of, parent_of, subtree_of}
@@ -22,7 +21,7 @@ use Rattle.pl_update.proofs.AboutLinks.Lookups.{Fails}
 use Rattle.pl_moves.specs.Changes.{placed_by}
 use Rattle.pl_moves.specs.Runs.{CanBeMade}
 use Rattle.pl_bounds.specs.Choosing.{kind_of_one}
-use Rattle.pl_bounds.specs.Remaining.{count_of_untouched, is_untouched}
+use Rattle.pl_bounds.specs.Remaining.{count_of_untouched}
 use Rattle.pl_bounds.specs.Ties.{count_of_links}
 use Rattle.pl_bounds.proofs.Bare.{undone}
 use Rattle.pl_bounds.proofs.Beside.{none_goes}

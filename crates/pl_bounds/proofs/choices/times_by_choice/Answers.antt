@@ -1,4 +1,4 @@
-use Rattle.std.proofs.Common.{◌≤◌, List, sym, subst}
+use Rattle.std.proofs.Common.{◌≤◌, List, subst}
 use Rattle.pl_plan.specs.declared.repair.RepairMove.{RepairMove}
 use Rattle.pl_plan.specs.declared.repair.RepairMove.TheVariants.{Detail}
 use Rattle.pl_moves.specs.Changes.{gone_by, placed_by}

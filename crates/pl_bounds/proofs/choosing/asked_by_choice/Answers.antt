@@ -1,9 +1,7 @@
-use Rattle.std.proofs.Common.{◌∙◌, ap, sym, subst, refl}
-use Rattle.pl_plan.specs.declared.repair.RepairMove.TheVariants.{Detail}
+use Rattle.std.proofs.Common.{◌∙◌, ap, subst, refl}
 use Rattle.pl_semantics.specs.declared.plan_state.PlanState.{PlanState}
 use Rattle.pl_semantics.specs.Demands.{demands_of}
 use Rattle.pl_semantics.specs.Whole.{IsWhole}
-use Rattle.pl_bounds.proofs.Bare.{can_bare, whole_bare}
 use Rattle.pl_bounds.proofs.Chosen.{exchanged, whole_alone}
 use Rattle.pl_bounds.proofs.choosing.asked_by_choice.Goals as goal
 

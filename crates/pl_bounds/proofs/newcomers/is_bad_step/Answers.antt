@@ -1,6 +1,5 @@
-use Rattle.std.proofs.Common.{◌≡◌, ◌<◌, ◌≤◌, ℕ, List, Option, ap, sym, subst, arith, ◌∙◌}
+use Rattle.std.proofs.Common.{◌<◌, ◌≤◌, ℕ, List, sym, subst, arith}
 use Rattle.std.specs.Prelude.{slice_get}
-use Rattle.pl_model.specs.declared.timelines.Timeline.{Timeline}
 use Rattle.pl_state.specs.Keys.{Has}
 use Rattle.pl_semantics.specs.declared.demand.Demand.{Demand}
 use Rattle.pl_semantics.specs.Whole.{IsWhole}

@@ -1,5 +1,4 @@
-use Rattle.std.proofs.Common.{◌≡◌, ◌≤◌, ℕ, List, ap, sym, subst, arith}
-use Rattle.pl_detect.specs.Based.{IsStateLine}
+use Rattle.std.proofs.Common.{ℕ, List, sym, subst, arith}
 use Rattle.pl_state.specs.Keys.{Has}
 use Rattle.pl_semantics.specs.declared.demand.Demand.{Demand}
 use Rattle.pl_semantics.specs.Whole.{IsWhole}

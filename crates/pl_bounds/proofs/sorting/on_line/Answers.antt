@@ -1,4 +1,4 @@
-use Rattle.std.proofs.Common.{◌≡◌, List, [], ap, arith, drop, pos}
+use Rattle.std.proofs.Common.{◌≡◌, List, ap, arith, drop, pos}
 use Rattle.std.proofs.lemmas.Int.{ints}
 use Rattle.std.proofs.lemmas.List.{drop_all}
 use Rattle.pl_semantics.specs.declared.demand.Demand.{Demand}
