@@ -7,5 +7,3 @@ pub mod Between
 pub mod Instead
 pub mod InTurn
 pub mod Promise
-pub mod Last
-pub mod Sieved

@@ -13,7 +13,7 @@ use crate::aiming::pick_by_aims;
 use crate::alone::{Alone, try_alone};
 use crate::best::Best;
 use crate::bounded::{bounds_of, lowest_of};
-use crate::deletion::pick_with_deletion;
+use crate::in_turn::pick_in_turn;
 use crate::picked::Picked;
 use crate::purpose::{Purpose, enough_for};
 use crate::stages::{Stage, are_of_one, stages_of, take_out};
@@ -34,8 +34,8 @@ pub(crate) enum Started {
     Open(Best),
 }
 
-/// Tries the first of some moves, given a number of conflicts that each of the others leaves at least.
-pub(crate) fn start_with(
+// Tries the first of some moves, given a number of conflicts that each of the others leaves at least.
+fn start_with(
     alloc: Global,
     board: &mut Board,
     first: &RepairMove,
@@ -164,7 +164,7 @@ fn pick_by_stages(
     ensures err { OnErr result (board.new.spoiled ≡ true) }
 {
     if take_out(&stages[0].trial.change.gone, stages) {
-        return pick_with_deletion(alloc, board, stages, purpose);
+        return pick_in_turn(alloc, board, stages, purpose);
     }
     pick_by_bounds(alloc, board, first, rest, purpose)
 }

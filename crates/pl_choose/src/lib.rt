@@ -5,7 +5,6 @@ mod aiming;
 mod alone;
 mod best;
 mod bounded;
-mod deletion;
 mod draw;
 mod fewest;
 mod hopes;

@@ -1,7 +1,5 @@
 use Rattle.std.proofs.Common.{List, ◌∙◌, ap, sym, subst}
 use Rattle.std.specs.Prelude.{All, ℕ}
-use Rattle.std.proofs.lemmas.List.Elements.{All-cons}
-use Rattle.pl_choose.specs.Found.{IsAllowed}
 use Rattle.pl_choose.specs.Stages.{TakesOut}
 use Rattle.pl_choose.specs.declared.stages.Stage.{Stage}
 use Rattle.pl_choose.proofs.InTurn.{gone_first, some_stage}
@@ -10,11 +8,11 @@ use Rattle.pl_choose.proofs.fewest.pick_by_stages.Goals as goal
 pub bounds-stages-0 : goal.bounds-stages-0
 bounds-stages-0 c = some_stage c.args.stages.now _ _ c.requires.moves
 
-pub pick_with_deletion-requires-clause-some : goal.pick_with_deletion-requires-clause-some
-pick_with_deletion-requires-clause-some c = some_stage c.args.stages.now _ _ c.requires.moves
+pub pick_in_turn-requires-clause-some : goal.pick_in_turn-requires-clause-some
+pick_in_turn-requires-clause-some c = some_stage c.args.stages.now _ _ c.requires.moves
 
-pub pick_with_deletion-requires-clause-same : goal.pick_with_deletion-requires-clause-same
-pick_with_deletion-requires-clause-same c =
+pub pick_in_turn-requires-clause-same : goal.pick_in_turn-requires-clause-same
+pick_in_turn-requires-clause-same c =
     let stages = c.args.stages.now in
     let first : Stage = c.index-stages-0.result in
     let is = c.deref.ensures.value
@@ -23,7 +21,4 @@ pick_with_deletion-requires-clause-same c =
     subst (λ (gone : List ℕ). All (TakesOut gone) stages) is (c.take_out.ensures c.if-take_out.true)
 
 pub returns-then-take_out-clause-picked : goal.returns-then-take_out-clause-picked
-returns-then-take_out-clause-picked c = rw c.requires.moves at c.pick_with_deletion.ensures.picked
-
-pub pick_with_deletion-requires-clause-allowed : goal.pick_with_deletion-requires-clause-allowed
-pick_with_deletion-requires-clause-allowed c = rw c.requires.moves (All-cons (IsAllowed c.args.board.now.state) c.args.first.now c.args.rest.now c.requires.first c.requires.rest)
+returns-then-take_out-clause-picked c = rw c.requires.moves at c.pick_in_turn.ensures.picked
