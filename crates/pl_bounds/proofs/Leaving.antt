@@ -29,7 +29,7 @@ ordered_apart (k ∷ ks) in_order = (absent k ks in_order.0, ordered_apart ks in
 pub standing_apart : (s : PlanState) (p : Conflict → Bool) → AreApart (filter p (conflicts_of s))
 standing_apart s p = apart_passing p (conflicts_of s) (ordered_apart (conflicts_of s) (ordered s))
 
-passing : (p : Conflict → Bool) (ks : List Conflict) (q : Conflict) → has q ks ≡ true → p q ≡ true → has q (filter p ks) ≡ true
+pub passing : (p : Conflict → Bool) (ks : List Conflict) (q : Conflict) → has q ks ≡ true → p q ≡ true → has q (filter p ks) ≡ true
 passing p [] q h e = absurd (cc)
 passing p (k ∷ ks) q h e = by (same q k) refl (p k) refl (passing p ks q)
   where

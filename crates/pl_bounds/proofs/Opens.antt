@@ -143,7 +143,7 @@ pub open_not_served : (s : PlanState) (q : Conflict) → has q (open_of s q.subj
 open_not_served s q here =
     false_from_ne_true (is_served q.subject s.plan.activities) (λ h. absurd (let none : has q (open_of s q.subject) ≡ has q [] = ap (λ (ks : List Conflict). has q ks) (served_not_open s q.subject h) in let bad : true ≡ false = sym here ∙ none in cc))
 
-is_it : (n : ℕ) (o : Option ℕ) → among n (option_to_list o) ≡ true → is_number n o ≡ true
+pub is_it : (n : ℕ) (o : Option ℕ) → among n (option_to_list o) ≡ true → is_number n o ≡ true
 is_it n None h = absurd (cc)
 is_it n (Some m) h = sym (or-false (eqb m n)) ∙ h
 

@@ -1,5 +1,5 @@
 -- A move of a subtree leaves the open goals, and what is wrong with other activities.
-use Rattle.std.proofs.Common.{◌≡◌, ℕ, ◌≤◌, eqb, Bool, true, false, List, [], ◌∷◌, ◌++◌, filter, length, Option, Some, None, refl, sym, ap, ◌∙◌, inl, inr}
+use Rattle.std.proofs.Common.{◌≡◌, ℕ, ◌≤◌, eqb, Bool, true, false, List, [], ◌∷◌, ◌++◌, filter, Option, Some, None, refl, sym, ap, ◌∙◌, inl, inr}
 use Rattle.std.specs.Prelude.{◌||◌, ◌&&◌, ◌⊎◌, Contains, not, nat_le}
 use Rattle.std.specs.List.{flat_map, filter_map, list_any}
 use Rattle.std.proofs.lemmas.Bool.{and_parts, eq-eqb, eqb-true, false_from_ne_true, not-true, or_from, or_left, or_right}
@@ -144,7 +144,7 @@ module _ (s : PlanState) (whole : IsWhole s) (next : s.next_id ≤ 3999999000) (
       steady s (applied s m) numbers concerned whole (whole_then s whole next m of can) (follows s whole next m of can) q (plain_is q plain) there
       (not_near s numbers concerned q e (others q.subject (not-true (among q.subject ids) either)))
 
-  elsewhere_stays : (q : Conflict) → has q (filter (is_elsewhere ids) (conflicts_of s)) ≡ true → (has q (conflicts_of (applied s m)) ≡ true) × (is_plain q ≡ true)
+  pub elsewhere_stays : (q : Conflict) → has q (filter (is_elsewhere ids) (conflicts_of s)) ≡ true → (has q (conflicts_of (applied s m)) ≡ true) × (is_plain q ≡ true)
   elsewhere_stays q h =
       let both = has_passing (is_elsewhere ids) (conflicts_of s) q h in
       let two = and_parts (is_plain q) (is_open_one q || not (among q.subject ids)) both.1 in

@@ -1,16 +1,17 @@
 -- What is wrong with goals and activities, links that are not met, and how often timelines are past limits of their own, are together
 -- no more than all that is wrong.
 use Rattle.std.proofs.Common.{◌≡◌, ℕ, suc, ◌+◌, ◌-◌, ◌≤◌, Bool, true, false, cond, List, [], ◌∷◌, ◌++◌, map, filter, length, refl, sym, ap, ◌∙◌, arith, inl, inr}
-use Rattle.std.specs.Prelude.{◌||◌, ℤ, All, slice_get, Option, Some}
+use Rattle.std.specs.Prelude.{◌||◌, ◌&&◌, not, ℤ, All, slice_get, Option, Some}
 use Rattle.std.proofs.lemmas.List.{length-append, length-map}
 use Rattle.std.proofs.lemmas.List.Elements.{All-head, All-tail}
 use Rattle.std.proofs.lemmas.List.Kept.{IsStrictlySortedBy-filter}
 use Rattle.std.proofs.Math.Bool.{or-true}
-use Rattle.std.proofs.lemmas.Bool.{false_from_ne_true}
+use Rattle.std.proofs.lemmas.Bool.{false_from_ne_true, or_cases}
 use Rattle.pl_points.proofs.Maximal.{maximal_spans}
 use Rattle.pl_model.specs.declared.timelines.Timeline.{Timeline}
 use Rattle.pl_model.specs.declared.timelines.Timeline.TheVariants.{Capacity, Level}
 use Rattle.pl_conflict.specs.declared.conflict.Conflict.{Conflict}
+use Rattle.pl_conflict.specs.declared.conflict.Code.{Code}
 use Rattle.pl_conflict.specs.declared.conflict.Code.TheVariants as code
 use Rattle.pl_conflict.specs.Order.{conflict_cmp, has}
 use Rattle.pl_conflict.proofs.Sorting.{same, same_is, has-append}
@@ -35,6 +36,7 @@ use Rattle.pl_bounds.specs.Counts.{AreApart}
 use Rattle.pl_bounds.specs.Plain.{is_plain_part, is_plain, count_of_plain}
 use Rattle.pl_bounds.specs.Ties.{is_link_part, is_link, count_of_links}
 use Rattle.pl_bounds.specs.Sides.{limit_of, value_at, is_past, code_of, HasLimit, IsOther, AreDifferent, spans_past, times_past}
+use Rattle.pl_bounds.specs.Marks.{is_of_states, is_state_one, count_of_states}
 use Rattle.pl_bounds.proofs.Counted.{held_are_few}
 use Rattle.pl_bounds.proofs.Differing.{apart_both, spans_differ}
 
@@ -152,21 +154,54 @@ three (k ∷ ks) = by (part_of k.code) (filter is_plain ks) (filter is_link ks) 
     by of_links plain links lines e = omega (arith, e)
     by of_timelines plain links lines e = omega (arith, e)
 
+-- of those of timelines, the ones that tell of a state, and the others
+abbrev is_other_line : Conflict → Bool
+is_other_line q = is_of_line q && not (is_state_one q)
+
+state_part : (c : Code) → is_of_states c ≡ true → is_line_part (part_of c) ≡ true
+state_part code.Must e = refl
+state_part code.BadStep e = refl
+state_part _ e = absurd (cc)
+
+two : (ks : List Conflict) → length (filter is_state_one ks) + length (filter is_other_line ks) ≡ length (filter is_of_line ks)
+two [] = omega arith
+two (k ∷ ks) = by (is_of_line k) (is_of_states k.code) (state_part k.code) (filter is_state_one ks) (filter is_other_line ks) (filter is_of_line ks) (two ks)
+  where
+    by : (b m : Bool) → (m ≡ true → b ≡ true) → (states others lines : List Conflict) → length states + length others ≡ length lines
+        → length (cond m (k ∷ states) states) + length (cond (b && not m) (k ∷ others) others) ≡ length (cond b (k ∷ lines) lines)
+    by true true part states others lines e = omega (arith, e)
+    by true false part states others lines e = omega (arith, e)
+    by false true part states others lines e = absurd (let bad : false ≡ true = part refl in cc)
+    by false false part states others lines e = omega (arith, e)
+
+side_no_state : (side : Side) → is_of_states (code_of side) ≡ false
+side_no_state Over = refl
+side_no_state Low = refl
+side_no_state High = refl
+
+past_no_state : (s : PlanState) (os : List Outside) (q : Conflict) → has q (past_all s os) ≡ true → is_state_one q ≡ false
+past_no_state s [] q e = absurd (cc)
+past_no_state s (o ∷ os) q e = elim (or_cases (has q (past_at s o)) (has q (past_all s os)) (sym (has-append (past_at s o) (past_all s os) q) ∙ e)) [
+  | inl here ↦ ap is_of_states (at_it s o q here).1 ∙ side_no_state o.side
+  | inr more ↦ past_no_state s os q more
+]
+
 -- a conflict of timelines is one of all
-among_lines : (s : PlanState) (q : Conflict) → has q (timeline_conflicts s) ≡ true → has q (filter is_of_line (conflicts_of s)) ≡ true
-among_lines s q e =
+among_lines : (s : PlanState) (q : Conflict) → has q (timeline_conflicts s) ≡ true → is_state_one q ≡ false → has q (filter is_other_line (conflicts_of s)) ≡ true
+among_lines s q e other =
     let part : part_of q.code ≡ of_timelines = of_timelines_alone s q e in
-    let is : is_of_line q ≡ true = ap is_line_part part in
+    let of_line : is_of_line q ≡ true = ap is_line_part part in
+    let is : is_other_line q ≡ true = rw (of_line, other) refl in
     let stands : has q (conflicts_of s) ≡ true =
     members s q ∙ ap (λ b. has q (goal_conflicts s) || (has q (activity_conflicts s) || (has q (link_conflicts s) || b))) e
     ∙ rw (or-true (has q (link_conflicts s)), or-true (has q (activity_conflicts s)), or-true (has q (goal_conflicts s))) refl in
-    has_kept is_of_line (conflicts_of s) q is stands
+    has_kept is_other_line (conflicts_of s) q is stands
 
-pub two_parts : (s : PlanState) → count_of_plain s + count_of_links s ≤ length (conflicts_of s)
-two_parts s = omega (arith, three (conflicts_of s))
+pub three_parts : (s : PlanState) → count_of_plain s + count_of_links s + count_of_states s ≤ length (conflicts_of s)
+three_parts s = omega (arith, three (conflicts_of s), two (conflicts_of s))
 
-pub parts : (s : PlanState) (os : List Outside) → IsWhole s → AreDifferent os → All (HasLimit s) os → count_of_plain s + count_of_links s + times_past s os ≤ length (conflicts_of s)
+pub parts : (s : PlanState) (os : List Outside) → IsWhole s → AreDifferent os → All (HasLimit s) os → count_of_plain s + count_of_links s + (count_of_states s + times_past s os) ≤ length (conflicts_of s)
 parts s os whole different limits =
-    let few : length (past_all s os) ≤ length (filter is_of_line (conflicts_of s)) =
-    held_are_few (past_all s os) (filter is_of_line (conflicts_of s)) (all_differ s os different) (IsStrictlySortedBy-filter conflict_cmp is_of_line (conflicts_of s) (ordered s)) (λ q e. among_lines s q (all_stand s whole.rising os limits q e)) in
-    omega (arith, three (conflicts_of s), few, as_often s os)
+    let few : length (past_all s os) ≤ length (filter is_other_line (conflicts_of s)) =
+    held_are_few (past_all s os) (filter is_other_line (conflicts_of s)) (all_differ s os different) (IsStrictlySortedBy-filter conflict_cmp is_other_line (conflicts_of s) (ordered s)) (λ q e. among_lines s q (all_stand s whole.rising os limits q e) (past_no_state s os q e)) in
+    omega (arith, three (conflicts_of s), two (conflicts_of s), few, as_often s os)

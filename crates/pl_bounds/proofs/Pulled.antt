@@ -1,6 +1,5 @@
--- What demands make of a timeline: one more of them, none moved, and the uses or the effects among them.
-use Rattle.std.proofs.Common.{◌≡◌, ℕ, ◌+◌, ◌<◌, Bool, true, false, cond, eqb, List, [], ◌∷◌, length, get_or, drop, map, refl, sym, ap, ◌∙◌, add-one, ℤ, pos, ◌+ℤ◌, arith}
-use Rattle.std.proofs.Math.Seq.{drop-cons}
+-- What demands make of a timeline: none moved, and the uses or the effects among them.
+use Rattle.std.proofs.Common.{◌≡◌, ℕ, Bool, true, false, cond, eqb, List, [], ◌∷◌, map, refl, ap, ◌∙◌, ℤ, pos, ◌+ℤ◌, arith}
 use Rattle.std.proofs.lemmas.Int.{ints}
 use Rattle.pl_points.specs.Sums.{total}
 use Rattle.pl_capacity.specs.Uses.{taken_at}
@@ -10,22 +9,10 @@ use Rattle.pl_semantics.specs.declared.demand.Asked.{Asked}
 use Rattle.pl_semantics.specs.declared.demand.Asked.TheVariants as asked
 use Rattle.pl_semantics.specs.Demands.{asked_of, use_in, effect_in, uses_of, effects_of}
 use Rattle.pl_update.proofs.AboutTimelines.Listing.{total-append}
-use Rattle.pl_bounds.specs.Afterwards.{asked_on, pull_of, pull}
+use Rattle.pl_bounds.specs.Afterwards.{asked_on}
 use Rattle.pl_bounds.specs.Moved.{moved_to, asked_moved, demand_moved}
 use Rattle.pl_bounds.specs.declared.outside.Side.{Side}
 use Rattle.pl_bounds.specs.declared.outside.Side.TheVariants.{Over, Low, High}
-use Rattle.pl_bounds.specs.declared.outside.Outside.{Outside}
-
--- ---- one more
-
-next_one : (ds : List Demand) (i : ℕ) (d : Demand) → i < length ds → drop i ds ≡ get_or ds i d ∷ drop (i + 1) ds
-next_one ds i d lt = drop-cons ds i d lt ∙ ap (λ (n : ℕ). get_or ds i d ∷ drop n ds) (sym (add-one i))
-
-pub pull_next : (o : Outside) (t from to : ℕ) (ds : List Demand) (i : ℕ) (d : Demand) (z : ℤ) → i < length ds → z ≡ pull_of o t (demand_moved from to (get_or ds i d))
-    → pull o t (map (demand_moved from to) (drop i ds)) ≡ z +ℤ pull o t (map (demand_moved from to) (drop (i + 1) ds))
-pull_next o t from to ds i d z lt is =
-    ap (λ (xs : List Demand). pull o t (map (demand_moved from to) xs)) (next_one ds i d lt)
-    ∙ ap (λ (y : ℤ). y +ℤ pull o t (map (demand_moved from to) (drop (i + 1) ds))) (sym is)
 
 -- ---- none moved
 

@@ -156,7 +156,7 @@ module _ (s : PlanState) (whole : IsWhole s) where
   xs = s.plan.activities
 
   -- what stands is told of an activity that is there
-  told_below : (q : Conflict) → part_of q.code ≡ of_links → has q (conflicts_of s) ≡ true → q.subject < s.next_id
+  pub told_below : (q : Conflict) → part_of q.code ≡ of_links → has q (conflicts_of s) ≡ true → q.subject < s.next_id
   told_below q part there = by (found s q.subject) refl (sym (links_by_subject s whole.rising q) ∙ (sym (shows_links s (conflicts_of s) refl q part) ∙ there))
     where
       by : (o : Option Activity) → found s q.subject ≡ o → has q (of_found (links_at s) o) ≡ true → q.subject < s.next_id
@@ -166,7 +166,7 @@ module _ (s : PlanState) (whole : IsWhole s) where
   pub below : (gone kinds : List ℕ) (parent : Option ℕ) (q : Conflict) → has q (untouched s gone kinds parent) ≡ true → q.subject < s.next_id
   below gone kinds parent q h = let both = has_passing (is_untouched s gone kinds parent) (conflicts_of s) q h in told_below q (aside s gone kinds parent q both.1).part both.0
 
-  left_of : (gone kinds : List ℕ) (parent : Option ℕ) (t : PlanState) → ((q : Conflict) → IsAside s gone kinds parent q → has q (conflicts_of s) ≡ true → has q (link_conflicts t) ≡ true) → AreLinks t (untouched s gone kinds parent)
+  pub left_of : (gone kinds : List ℕ) (parent : Option ℕ) (t : PlanState) → ((q : Conflict) → IsAside s gone kinds parent q → has q (conflicts_of s) ≡ true → has q (link_conflicts t) ≡ true) → AreLinks t (untouched s gone kinds parent)
   left_of gone kinds parent t each = record {
     apart = standing_apart s (is_untouched s gone kinds parent);
     stand = λ q h. let both = has_passing (is_untouched s gone kinds parent) (conflicts_of s) q h in each q (aside s gone kinds parent q both.1) both.0;

@@ -1,5 +1,5 @@
 -- How many conflicts of goals and activities a move leaves at least.
-use Rattle.std.proofs.Common.{◌≡◌, ℕ, suc, ◌+◌, ◌-◌, ◌≤◌, eqb, Bool, true, false, cond, List, [], ◌∷◌, filter, length, Option, Some, None, refl, sym, ap, ◌∙◌, subst, arith}
+use Rattle.std.proofs.Common.{◌≡◌, ℕ, suc, ◌+◌, ◌-◌, ◌≤◌, eqb, Bool, true, false, cond, List, [], ◌∷◌, filter, length, Option, Some, None, refl, sym, ap, ◌∙◌, arith}
 use Rattle.std.specs.Prelude.{◌||◌, IfSome, max, not, slice_get}
 use Rattle.std.specs.Option.{option_to_list}
 use Rattle.std.proofs.lemmas.Bool.{false_from_ne_true}
@@ -25,7 +25,6 @@ use Rattle.pl_semantics.specs.Conflicts.{conflicts_of}
 use Rattle.pl_semantics.specs.Moves.{applied, root_for}
 use Rattle.pl_semantics.specs.Parts.{part_of, of_activities}
 use Rattle.pl_semantics.specs.Whole.{IsWhole}
-use Rattle.pl_bounds.specs.Counts.{AreApart}
 use Rattle.pl_bounds.specs.Plain.{is_plain, is_plain_part, count_of_plain}
 use Rattle.pl_bounds.specs.Standing.{count_of_elsewhere, is_elsewhere, HasUnset, IsLeftByNew, IsOpenWithout, is_open_one, IsStandingOf, IsUnsetThen}
 use Rattle.pl_bounds.specs.Windows.{is_off, or_one_more, IsLeftByShift, IsWindowOf}

@@ -23,8 +23,9 @@ use Rattle.pl_moves.proofs.Made.{made, can_replace}
 use Rattle.pl_bounds.specs.declared.outside.Outside.{Outside}
 use Rattle.pl_bounds.specs.Plain.{count_of_plain}
 use Rattle.pl_bounds.specs.Ties.{count_of_links}
+use Rattle.pl_bounds.specs.Marks.{count_of_states}
 use Rattle.pl_bounds.specs.Sides.{HasLimit, AreDifferent, times_past}
-use Rattle.pl_bounds.proofs.Parts.{two_parts, parts}
+use Rattle.pl_bounds.proofs.Parts.{three_parts, parts}
 
 -- ---- what goes is named once
 
@@ -53,13 +54,18 @@ module _ (s : PlanState) (m : RepairMove) (whole : IsWhole s) (next : s.next_id 
   pub placed_is : with_plan (gone_by s m) (placed_by s m) s ≡ applied s m
   placed_is = (made s whole m of can.proper can.allowed).is
 
+  -- with what is wrong with states
+  pub leaves_all : (os : List Outside) → AreDifferent os → All (HasLimit s) os → (k n : ℕ) → k ≤ count_of_states (with_plan (gone_by s m) (placed_by s m) s) → n ≤ times_past (with_plan (gone_by s m) (placed_by s m) s) os
+      → count_of_plain (applied s m) + count_of_links (applied s m) + (k + n) ≤ left_after s m
+  unfolding left_after
+  leaves_all os different limits k n some few =
+      let all = parts (with_plan (gone_by s m) (placed_by s m) s) os (whole_replaced s (gone_by s m) (placed_by s m) whole can_place) different limits in
+      subst (λ (t : PlanState). count_of_plain t + count_of_links t + (k + n) ≤ length (conflicts_of t)) placed_is (omega (arith, all, some, few))
+
   pub leaves : (os : List Outside) → AreDifferent os → All (HasLimit s) os → (n : ℕ) → n ≤ times_past (with_plan (gone_by s m) (placed_by s m) s) os
       → count_of_plain (applied s m) + count_of_links (applied s m) + n ≤ left_after s m
-  unfolding left_after
-  leaves os different limits n few =
-      let all = parts (with_plan (gone_by s m) (placed_by s m) s) os (whole_replaced s (gone_by s m) (placed_by s m) whole can_place) different limits in
-      subst (λ (t : PlanState). count_of_plain t + count_of_links t + n ≤ length (conflicts_of t)) placed_is (omega (arith, all, few))
+  leaves os different limits n few = let all = leaves_all os different limits 0 n (omega arith) few in omega (arith, all)
 
 pub leaves_both : (s : PlanState) (m : RepairMove) → count_of_plain (applied s m) + count_of_links (applied s m) + 0 ≤ left_after s m
 unfolding left_after
-leaves_both s m = omega (arith, two_parts (applied s m))
+leaves_both s m = omega (arith, three_parts (applied s m))

@@ -34,7 +34,7 @@ has_planned k true ks e there = absurd (cc)
 has_planned k false ks e there = there
 
 -- what is wrong with an activity that is not committed, and has none of the alternatives of its kind
-wrong_new : (t : PlanState) (a : Activity) → is_committed t a ≡ false → undetailed_at t a ≡ at_start a Undetailed 0 0 ∷ [] → has (at_start a Undetailed 0 0) (wrong_at t a) ≡ true
+pub wrong_new : (t : PlanState) (a : Activity) → is_committed t a ≡ false → undetailed_at t a ≡ at_start a Undetailed 0 0 ∷ [] → has (at_start a Undetailed 0 0) (wrong_at t a) ≡ true
 unfolding wrong_at
 wrong_new t a planned undetailed =
     let k : Conflict = at_start a Undetailed 0 0 in

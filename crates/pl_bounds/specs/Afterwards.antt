@@ -1,5 +1,5 @@
 -- What a timeline comes to once some demands went and others came.
-use Rattle.std.specs.Prelude.{◌≡◌, ℕ, ◌+◌, ◌==◌, ℤ, pos, ◌+ℤ◌, ◌-ℤ◌, Bool, List, [], ◌∷◌, map, length, if◌then◌else◌}
+use Rattle.std.specs.Prelude.{ℕ, ◌+◌, ◌==◌, ℤ, pos, ◌+ℤ◌, ◌-ℤ◌, Bool, List, [], ◌∷◌, map, length, if◌then◌else◌}
 use Rattle.pl_capacity.specs.declared.reservation.Use.{Use}
 use Rattle.pl_capacity.specs.Uses.{taken_at}
 use Rattle.pl_level.specs.declared.reservation.Effect.{Effect}
@@ -16,7 +16,7 @@ use Rattle.pl_bounds.specs.declared.asking.Asking.{Asking}
 use Rattle.pl_bounds.specs.declared.outside.Side.{Side}
 use Rattle.pl_bounds.specs.declared.outside.Side.TheVariants.{Over, Low, High}
 use Rattle.pl_bounds.specs.declared.outside.Outside.{Outside}
-use Rattle.pl_bounds.specs.declared.pulls.Way.{Way}
+use Rattle.pl_bounds.specs.declared.stepwise.Way.{Way}
 
 -- uses count where a capacity is looked at, and effects where a level is
 abbrev pub use_on : Side → ℕ → Use → ℤ
@@ -46,10 +46,6 @@ pull o t ds = total (pull_of o t) ds
 -- demands, moved along
 abbrev pub moved_by : Way → List Demand → List Demand
 moved_by w ds = map (demand_moved w.from w.to) ds
-
--- both make the same of the timeline at each moment, wherever they are moved
-abbrev pub MakeSame : Outside → List Demand → List Demand → Type 0
-MakeSame o ds es = (w : Way) (t : ℕ) → pull o t (moved_by w ds) ≡ pull o t (moved_by w es)
 
 -- what comes, as it stands at a start
 abbrev pub coming_at : Asking → ℕ → List Demand

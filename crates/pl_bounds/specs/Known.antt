@@ -6,9 +6,9 @@ use Rattle.pl_semantics.specs.Moves.{applied}
 use Rattle.pl_moves.specs.Changes.{gone_by, placed_by}
 use Rattle.pl_moves.specs.Runs.{CanBeMade, start_of}
 use Rattle.pl_bounds.specs.Asked.{IsAlike, IsAskedBy}
-use Rattle.pl_bounds.specs.Parted.{IsPartOf}
 use Rattle.pl_bounds.specs.Orders.{unmet_then}
 use Rattle.pl_bounds.specs.Plain.{count_of_plain}
+use Rattle.pl_bounds.specs.Steps.{IsAdditionOf}
 use Rattle.pl_bounds.specs.Ties.{lone_then, count_of_links}
 use Rattle.pl_bounds.specs.Windows.{or_one_more}
 use Rattle.pl_bounds.specs.declared.known.Known.{Known}
@@ -30,7 +30,7 @@ pub record IsKnownOf (s : PlanState) (k : Known) : Type 0 where
 abbrev pub only_steady : RepairMove → ℕ → Known
 only_steady first n = record { first = first; steady = n; window = None; untouched = 0; alone = None; asking = None }
 
--- what is known of its moves, and the parts of what they ask for
+-- what is known of its moves, and what they add at limits of timelines
 pub record IsRunOf (s : PlanState) (r : Run) : Type 0 where
   pub known : IsKnownOf s r.known
-  pub parts : IfSome r.known.asking (λ a. All (IsPartOf a) r.parts.items)
+  pub additions : IfSome r.known.asking (λ a. All (IsAdditionOf a) r.additions.items)

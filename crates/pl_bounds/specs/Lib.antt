@@ -27,10 +27,15 @@ pub mod Known
 pub mod Standing
 pub mod Windows
 pub mod Afterwards
-pub mod Parted
+pub mod Steps
 pub mod Changed
 pub mod Tallies
 pub mod Looks
 pub mod Ties
 pub mod Orders
 pub mod Remaining
+pub mod Choosing
+pub mod Settings
+pub mod Exchanges
+pub mod Marks
+pub mod Seen

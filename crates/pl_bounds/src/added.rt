@@ -1,20 +1,21 @@
-//! What a change adds to a timeline, and up to when.
-ghost use Rattle.std.specs.Prelude.{◌≡◌, ◌≤◌, ◌<◌, ℕ, IfSome, IsTrue, List};
-ghost use Rattle.pl_semantics.specs.declared.demand.Demand as asked;
+//! What a move adds to a timeline, and up to when.
+ghost use Rattle.std.specs.Prelude.{◌≡◌, ◌≤◌, ◌<◌, ◌+ℤ◌, ℕ, IfSome, IsTrue, List};
 ghost use Rattle.pl_bounds.specs.declared.outside.Outside as looked;
-ghost use Rattle.pl_bounds.specs.Afterwards.{moved_by, pull, value_with};
-ghost use Rattle.pl_bounds.specs.Changed.{added_by, IsAddedBy};
+ghost use Rattle.pl_bounds.specs.declared.stepwise.Step as taken;
+ghost use Rattle.pl_bounds.specs.declared.stepwise.Way as ways;
+ghost use Rattle.pl_bounds.specs.Changed.{IsAddedBy};
+ghost use Rattle.pl_bounds.specs.Steps.{step_on, steps_on};
 
 use crate::outside::{Look, Outside};
-use crate::pulls::{Way, pull};
-use crate::until::lasts;
-use pl_semantics::Demand;
+use crate::stepwise::{Step, Way};
 
-/// What goes and what comes of a timeline. What comes is moved along.
+// After every moment.
+const EVER: u64 = u64::MAX;
+
+/// The steps by which a move changes a timeline. Those of what comes are moved along.
 #[derive(Clone, Copy)]
 pub(crate) struct Change<'c> {
-    pub(crate) going: &'c [Demand],
-    pub(crate) coming: &'c [Demand],
+    pub(crate) steps: &'c [Step],
     pub(crate) way: Way,
 }
 
@@ -29,13 +30,36 @@ pub(crate) struct Added {
 impl Added {
     /// It is known of no moment how much is added.
     pub(crate) fn unknown() -> Added
-        ensures { (o : looked.Outside) (going coming : List asked.Demand) → IsAddedBy o going coming result }
+        ensures { (o : looked.Outside) (w : ways.Way) (steps : List taken.Step) → IsAddedBy o w steps result }
     {
         Added {
             by: 0,
             from: 0,
             until: 0,
         }
+    }
+
+    // With one step more, if the sum fits.
+    fn with(self, outside: &Outside, step: Step, way: Way) -> Option<Added>
+        ensures from { IfSome result (λ a. a.from ≡ self.from) }
+        ensures until { IfSome result (λ a. a.until ≤ self.until) }
+        ensures by { IfSome result (λ a. (u : ℕ) → self.from ≤ u → u < a.until → a.by ≡ self.by +ℤ step_on outside.now way u step) }
+    {
+        let at = step.moment(way);
+        if u64::from(self.from) < at {
+            return Some(Added {
+                by: self.by,
+                from: self.from,
+                until: self.until.min(at),
+            });
+        }
+        let more = step.by(outside, at)?;
+        let by = self.by.checked_add(more)?;
+        Some(Added {
+            by,
+            from: self.from,
+            until: self.until,
+        })
     }
 
     /// Whether it is known how much is added at a moment.
@@ -48,7 +72,7 @@ impl Added {
 
     /// What the timeline comes to at a look, if that is known and fits.
     pub(crate) fn value_with(self, look: Look) -> Option<i64>
-        ensures { (o : looked.Outside) (going coming : List asked.Demand) → IsAddedBy o going coming self → IfSome result (λ v. v ≡ value_with o going coming look.at look.value) }
+        ensures { (o : looked.Outside) (w : ways.Way) (steps : List taken.Step) → IsAddedBy o w steps self → IfSome result (λ v. v ≡ look.value +ℤ steps_on o w look.at steps) }
     {
         if self.is_known_at(look.at) {
             look.value.checked_add(self.by)
@@ -58,34 +82,28 @@ impl Added {
     }
 }
 
-// How much is added at a moment, where the sums fit. What goes stays where it is.
-fn sum_at(outside: &Outside, change: &Change<'_>, t: u32) -> Option<i64>
-    ensures { IfSome result (λ by. by ≡ added_by outside.now change.now.going.now (moved_by change.now.way change.now.coming.now) t) }
+// How much is added from a moment on, and up to when, where the sums fit.
+fn sum_at(outside: &Outside, change: &Change<'_>, t: u32) -> Option<Added>
+    ensures { IfSome result (λ a. IsAddedBy outside.now change.now.way change.now.steps.now a) }
 {
-    let still = Way { from: 0, to: 0 };
-    let going = pull(outside, change.going, still, t)?;
-    let coming = pull(outside, change.coming, change.way, t)?;
-    coming.checked_sub(going)
+    let mut added = Added {
+        by: 0,
+        from: t,
+        until: EVER,
+    };
+    let steps = change.steps;
+    for step in steps {
+        added = added.with(outside, *step, change.way)?;
+    }
+    Some(added)
 }
 
-// Up to when as much is added as at this moment.
-fn until_of(change: &Change<'_>, t: u32) -> u64
-    ensures going { (o : looked.Outside) (u : ℕ) → t ≤ u → u < result → pull o u change.now.going.now ≡ pull o t change.now.going.now }
-    ensures coming { (o : looked.Outside) (u : ℕ) → t ≤ u → u < result → pull o u (moved_by change.now.way change.now.coming.now) ≡ pull o t (moved_by change.now.way change.now.coming.now) }
-{
-    let still = Way { from: 0, to: 0 };
-    let goes = lasts(change.going, still, t);
-    let comes = lasts(change.coming, change.way, t);
-    goes.min(comes)
-}
-
-/// How much is added from a moment on, and up to when.
+/// The same. If the sums do not fit, it is known of no moment how much is added.
 pub(crate) fn added_at(outside: &Outside, change: &Change<'_>, t: u32) -> Added
-    ensures { IsAddedBy outside.now change.now.going.now (moved_by change.now.way change.now.coming.now) result }
+    ensures { IsAddedBy outside.now change.now.way change.now.steps.now result }
 {
-    let until = until_of(change, t);
     match sum_at(outside, change, t) {
-        Some(by) => Added { by, from: t, until },
+        Some(added) => added,
         None => Added::unknown(),
     }
 }

@@ -46,8 +46,8 @@ fn add_asked_by(board: &Board, id: u32, all: &mut Vec<Demand>) -> Result<(), All
     }
 }
 
-// What the activities of these ids ask for.
-fn asked_by(alloc: Global, board: &Board, ids: &[u32]) -> Result<Vec<Demand>, AllocError>
+/// What the activities of these ids ask for.
+pub(crate) fn asked_by(alloc: Global, board: &Board, ids: &[u32]) -> Result<Vec<Demand>, AllocError>
     requires { board.now.spoiled ≡ false }
     ensures { IfOk result (λ all. all.items ≡ gone_from board.now.state ids.now) }
 {

@@ -1,34 +1,35 @@
 //! How often timelines are past their limits at least, once some demands went and others came.
-ghost use Rattle.std.specs.Prelude.{◌≡◌, ◌≤◌, ℕ, Bool, List, [], false, All, length, IsTrue};
+ghost use Rattle.std.specs.Prelude.{◌≡◌, ◌≤◌, ℕ, Bool, List, [], false, All, IfSome, IsTrue, length};
 ghost use Rattle.pl_update.specs.Changes.Replaced.{CanReplace, with_plan};
 ghost use Rattle.pl_update.specs.Timelines.Laws.{AreOnce};
 ghost use Rattle.pl_plan.specs.declared.activity.Activity.{Activity};
-ghost use Rattle.pl_semantics.specs.declared.demand.Demand as asked;
 ghost use Rattle.pl_semantics.specs.declared.plan_state.PlanState.{PlanState};
 ghost use Rattle.pl_semantics.specs.Timelines.{spans_ahead};
-ghost use Rattle.pl_bounds.specs.Afterwards.{coming_at, moved_by, is_past_with};
+ghost use Rattle.pl_bounds.specs.Afterwards.{coming_at, is_past_with};
 ghost use Rattle.pl_bounds.specs.Asked.{IsAskedBy};
 ghost use Rattle.pl_bounds.specs.Changed.{IsAddedBy, IsWalkOf};
-ghost use Rattle.pl_bounds.specs.Parted.{IsPartOf};
+ghost use Rattle.pl_bounds.specs.declared.stepwise.Step as taken;
+ghost use Rattle.pl_bounds.specs.declared.stepwise.Way as ways;
 ghost use Rattle.pl_bounds.specs.Sides.{IsOutsideOf, times_past, value_at};
+ghost use Rattle.pl_bounds.specs.Steps.{is_past_by, IsAdditionOf};
 ghost use Rattle.pl_bounds.specs.Tallies.{fresh, IsTallyOf};
 
 use crate::added::{Added, Change, added_at};
 use crate::asking::Asking;
-use crate::outside::{Look, Outside};
-use crate::pulls::Way;
+use crate::outside::{Look, Outside, Side};
 use crate::reading::{is_past, value_at};
-use crate::sorting::{Part, bears_on, coming_on, going_on};
+use crate::sorting::Addition;
+use crate::stepwise::Way;
 use crate::tally::Tally;
 use crate::worse::{may_be_past, worse_within};
 use pl_board::Board;
 
 // The tally with whether the timeline is past its limit at a look, if that is known.
 fn looked_at(tally: Tally, outside: &Outside, added: Added, look: Look) -> Tally
-    ensures { (s : PlanState) (from end : ℕ) (going coming : List asked.Demand) → look.value ≡ value_at s outside.now.side outside.now.line look.at
-        → IsAddedBy outside.now going coming added
-        → IsTallyOf (is_past_with s outside.now going coming) from end tally
-        → IsTallyOf (is_past_with s outside.now going coming) from end result }
+    ensures { (s : PlanState) (from end : ℕ) (w : ways.Way) (steps : List taken.Step) → look.value ≡ value_at s outside.now.side outside.now.line look.at
+        → IsAddedBy outside.now w steps added
+        → IsTallyOf (is_past_by s outside.now w steps) from end tally
+        → IsTallyOf (is_past_by s outside.now w steps) from end result }
 {
     match added.value_with(look) {
         Some(value) => tally.noted(look.at, is_past(outside.side, outside.limit, value)),
@@ -47,8 +48,8 @@ fn looked_before(
 ) -> Tally
     requires unspoiled { board.now.spoiled ≡ false }
     requires of_plan { IsOutsideOf board.now.state outside.now }
-    requires tally { IsTallyOf (is_past_with board.now.state outside.now change.now.going.now (moved_by change.now.way change.now.coming.now)) board.now.state.moment board.now.state.model.horizon tally }
-    ensures { IsTallyOf (is_past_with board.now.state outside.now change.now.going.now (moved_by change.now.way change.now.coming.now)) board.now.state.moment board.now.state.model.horizon result }
+    requires tally { IsTallyOf (is_past_by board.now.state outside.now change.now.way change.now.steps.now) board.now.state.moment board.now.state.model.horizon tally }
+    ensures { IsTallyOf (is_past_by board.now.state outside.now change.now.way change.now.steps.now) board.now.state.moment board.now.state.model.horizon result }
 {
     let end = to.min(tally.end);
     if tally.before || end <= tally.next {
@@ -83,8 +84,8 @@ fn looked_between(
 ) -> Tally
     requires unspoiled { board.now.spoiled ≡ false }
     requires of_plan { IsOutsideOf board.now.state outside.now }
-    requires tally { IsTallyOf (is_past_with board.now.state outside.now change.now.going.now (moved_by change.now.way change.now.coming.now)) board.now.state.moment board.now.state.model.horizon walk.tally }
-    ensures { IsTallyOf (is_past_with board.now.state outside.now change.now.going.now (moved_by change.now.way change.now.coming.now)) board.now.state.moment board.now.state.model.horizon result }
+    requires tally { IsTallyOf (is_past_by board.now.state outside.now change.now.way change.now.steps.now) board.now.state.moment board.now.state.model.horizon walk.tally }
+    ensures { IsTallyOf (is_past_by board.now.state outside.now change.now.way change.now.steps.now) board.now.state.moment board.now.state.model.horizon result }
 {
     if may_be_past(outside, walk.last, added) {
         looked_before(board, walk.tally, outside, change, to)
@@ -95,8 +96,8 @@ fn looked_between(
 
 // Goes on to a look at which as much is added as before.
 fn gone_on(walk: Walk, outside: &Outside, look: Look) -> Walk
-    ensures { (s : PlanState) (going coming : List asked.Demand) → look.value ≡ value_at s outside.now.side outside.now.line look.at
-        → IsWalkOf s outside.now going coming walk → IsWalkOf s outside.now going coming result }
+    ensures { (s : PlanState) (w : ways.Way) (steps : List taken.Step) → look.value ≡ value_at s outside.now.side outside.now.line look.at
+        → IsWalkOf s outside.now w steps walk → IsWalkOf s outside.now w steps result }
 {
     Walk {
         tally: looked_at(walk.tally, outside, walk.added, look),
@@ -109,9 +110,9 @@ fn gone_on(walk: Walk, outside: &Outside, look: Look) -> Walk
 fn gone_anew(board: &Board, walk: Walk, outside: &Outside, change: &Change<'_>, look: Look) -> Walk
     requires unspoiled { board.now.spoiled ≡ false }
     requires of_plan { IsOutsideOf board.now.state outside.now }
-    requires tally { IsTallyOf (is_past_with board.now.state outside.now change.now.going.now (moved_by change.now.way change.now.coming.now)) board.now.state.moment board.now.state.model.horizon walk.tally }
+    requires tally { IsTallyOf (is_past_by board.now.state outside.now change.now.way change.now.steps.now) board.now.state.moment board.now.state.model.horizon walk.tally }
     requires right { look.value ≡ value_at board.now.state outside.now.side outside.now.line look.at }
-    ensures { IsWalkOf board.now.state outside.now change.now.going.now (moved_by change.now.way change.now.coming.now) result }
+    ensures { IsWalkOf board.now.state outside.now change.now.way change.now.steps.now result }
 {
     let added = added_at(outside, change, look.at);
     let before = looked_between(board, walk, outside, change, added, look.at);
@@ -126,9 +127,9 @@ fn gone_anew(board: &Board, walk: Walk, outside: &Outside, change: &Change<'_>, 
 fn gone_to(board: &Board, walk: Walk, outside: &Outside, change: &Change<'_>, look: Look) -> Walk
     requires unspoiled { board.now.spoiled ≡ false }
     requires of_plan { IsOutsideOf board.now.state outside.now }
-    requires walk { IsWalkOf board.now.state outside.now change.now.going.now (moved_by change.now.way change.now.coming.now) walk }
+    requires walk { IsWalkOf board.now.state outside.now change.now.way change.now.steps.now walk }
     requires right { look.value ≡ value_at board.now.state outside.now.side outside.now.line look.at }
-    ensures { IsWalkOf board.now.state outside.now change.now.going.now (moved_by change.now.way change.now.coming.now) result }
+    ensures { IsWalkOf board.now.state outside.now change.now.way change.now.steps.now result }
 {
     if walk.added.is_known_at(look.at) {
         gone_on(walk, outside, look)
@@ -142,19 +143,26 @@ fn is_steady(walk: Walk) -> bool {
     u64::from(walk.tally.end) <= walk.added.until
 }
 
+// Whether the timeline may be past its limit behind the last look.
+fn may_be_past_behind(walk: Walk, outside: &Outside, change: &Change<'_>) -> bool {
+    if outside.side == Side::Over {
+        return true;
+    }
+    let last = walk.tally.end.saturating_sub(1);
+    may_be_past(outside, walk.last, added_at(outside, change, last))
+}
+
 // How often at least the timeline is past its limit, once all looks are noted. If as much is added up to the end, the rest needs no look.
 fn times_behind(board: &Board, walk: Walk, outside: &Outside, change: &Change<'_>) -> u32
     requires unspoiled { board.now.spoiled ≡ false }
     requires of_plan { IsOutsideOf board.now.state outside.now }
-    requires walk { IsWalkOf board.now.state outside.now change.now.going.now (moved_by change.now.way change.now.coming.now) walk }
-    ensures { result ≤ length (spans_ahead board.now.state (is_past_with board.now.state outside.now change.now.going.now (moved_by change.now.way change.now.coming.now))) }
+    requires walk { IsWalkOf board.now.state outside.now change.now.way change.now.steps.now walk }
+    ensures { result ≤ length (spans_ahead board.now.state (is_past_by board.now.state outside.now change.now.way change.now.steps.now)) }
 {
-    if is_steady(walk) {
+    if is_steady(walk) || !may_be_past_behind(walk, outside, change) {
         walk.tally.times
     } else {
-        let end = walk.tally.end;
-        let added = added_at(outside, change, end.saturating_sub(1));
-        looked_between(board, walk, outside, change, added, end).times
+        looked_before(board, walk.tally, outside, change, walk.tally.end).times
     }
 }
 
@@ -163,7 +171,7 @@ fn times_of(board: &Board, ahead: Tally, outside: &Outside, change: &Change<'_>)
     requires unspoiled { board.now.spoiled ≡ false }
     requires of_plan { IsOutsideOf board.now.state outside.now }
     requires ahead { (P : ℕ → Bool) → IsTallyOf P board.now.state.moment board.now.state.model.horizon ahead }
-    ensures { result ≤ length (spans_ahead board.now.state (is_past_with board.now.state outside.now change.now.going.now (moved_by change.now.way change.now.coming.now))) }
+    ensures { result ≤ length (spans_ahead board.now.state (is_past_by board.now.state outside.now change.now.way change.now.steps.now)) }
 {
     let mut walk = Walk {
         tally: ahead,
@@ -177,19 +185,19 @@ fn times_of(board: &Board, ahead: Tally, outside: &Outside, change: &Change<'_>)
     times_behind(board, walk, outside, change)
 }
 
+// Whether the move leaves the timeline as it is.
 fn is_nothing(change: &Change<'_>) -> bool
-    ensures going { IsTrue result → change.now.going.now ≡ [] }
-    ensures coming { IsTrue result → change.now.coming.now ≡ [] }
+    ensures { IsTrue result → change.now.steps.now ≡ [] }
 {
-    change.going.is_empty() && change.coming.is_empty()
+    change.steps.is_empty()
 }
 
-// The same. If nothing that goes or comes concerns this timeline, it is past its limit as often as it is now.
+// The same. If nothing is added to this timeline, it is past its limit as often as it is now.
 fn times_by(board: &Board, ahead: Tally, outside: &Outside, change: &Change<'_>) -> u32
     requires unspoiled { board.now.spoiled ≡ false }
     requires of_plan { IsOutsideOf board.now.state outside.now }
     requires ahead { (P : ℕ → Bool) → IsTallyOf P board.now.state.moment board.now.state.model.horizon ahead }
-    ensures { result ≤ length (spans_ahead board.now.state (is_past_with board.now.state outside.now change.now.going.now (moved_by change.now.way change.now.coming.now))) }
+    ensures { result ≤ length (spans_ahead board.now.state (is_past_by board.now.state outside.now change.now.way change.now.steps.now)) }
 {
     if is_nothing(change) {
         outside.times
@@ -198,10 +206,13 @@ fn times_by(board: &Board, ahead: Tally, outside: &Outside, change: &Change<'_>)
     }
 }
 
-// Whether a timeline is taken to be nowhere past its limit: a level has no looks, or the timeline is not past its limit now and nothing of
-// these parts concerns it.
-fn is_out_of_reach(outside: &Outside, parts: &[Part]) -> bool {
-    outside.is_clear() || outside.times == 0 && !bears_on(parts, outside.line)
+// Whether this is what the move adds at this limit, and the timeline has looks if it is a level. A level without looks is taken to be
+// nowhere past its limit.
+fn is_looked_at(outside: &Outside, addition: &Addition) -> bool
+    ensures line { IsTrue result → outside.now.line ≡ addition.now.line }
+    ensures side { IsTrue result → outside.now.side ≡ addition.now.side }
+{
+    !outside.is_clear() && addition.is_of(outside)
 }
 
 // The same once what goes is gone, and what comes stands at this start.
@@ -210,49 +221,71 @@ fn times_with(
     ahead: Tally,
     outside: &Outside,
     asking: &Asking,
-    parts: &[Part],
+    addition: &Addition,
     start: u32,
 ) -> u32
     requires unspoiled { board.now.spoiled ≡ false }
     requires of_plan { IsOutsideOf board.now.state outside.now }
     requires ahead { (P : ℕ → Bool) → IsTallyOf P board.now.state.moment board.now.state.model.horizon ahead }
-    requires parts { All (IsPartOf asking.now) parts.now }
+    requires addition { IsAdditionOf asking.now addition.now }
     ensures { result ≤ length (spans_ahead board.now.state (is_past_with board.now.state outside.now asking.now.going.items (coming_at asking.now start))) }
 {
-    if is_out_of_reach(outside, parts) {
-        return 0;
+    if is_looked_at(outside, addition) {
+        let change = Change {
+            steps: addition.steps.as_slice(),
+            way: Way {
+                from: asking.start,
+                to: start,
+            },
+        };
+        times_by(board, ahead, outside, &change)
+    } else {
+        0
     }
-    let change = Change {
-        going: going_on(asking, parts, outside),
-        coming: coming_on(asking, parts, outside),
-        way: Way {
-            from: asking.start,
-            to: start,
-        },
-    };
-    times_by(board, ahead, outside, &change)
 }
 
-/// How often at least the timelines are past their limits once what goes is gone, and what comes stands at this start. `parts` is what the move
-/// asks for, sorted by timeline.
+// The same, if it is known what the move adds at this limit.
+fn times_at(
+    board: &Board,
+    ahead: Tally,
+    outside: &Outside,
+    asking: &Asking,
+    addition: Option<&Addition>,
+    start: u32,
+) -> u32
+    requires unspoiled { board.now.spoiled ≡ false }
+    requires of_plan { IsOutsideOf board.now.state outside.now }
+    requires ahead { (P : ℕ → Bool) → IsTallyOf P board.now.state.moment board.now.state.model.horizon ahead }
+    requires addition { IfSome addition (λ x. IsAdditionOf asking.now x.now) }
+    ensures { result ≤ length (spans_ahead board.now.state (is_past_with board.now.state outside.now asking.now.going.items (coming_at asking.now start))) }
+{
+    match addition {
+        Some(addition) => times_with(board, ahead, outside, asking, addition, start),
+        None => 0,
+    }
+}
+
+/// How often at least the timelines are past their limits once what goes is gone, and what comes stands at this start. `additions` is what
+/// the move adds at each of the limits. Limits that stand behind these are not counted.
 pub(crate) fn past_after(
     board: &Board,
     outsides: &[Outside],
     asking: &Asking,
-    parts: &[Part],
+    additions: &[Addition],
     start: u32,
 ) -> u32
     requires unspoiled { board.now.spoiled ≡ false }
     requires of_plan { All (IsOutsideOf board.now.state) outsides.now }
-    requires parts { All (IsPartOf asking.now) parts.now }
+    requires additions { All (IsAdditionOf asking.now) additions.now }
     ensures { (gone : List ℕ) (more : List Activity) → CanReplace board.now.state gone more → AreOnce gone
         → IsAskedBy board.now.state gone more asking.now start → result ≤ times_past (with_plan gone more board.now.state) outsides.now }
 {
     let s = board.state();
     let ahead = Tally::new(s.moment, s.model.get().horizon);
     let mut times: u32 = 0;
-    for outside in outsides {
-        times = times.saturating_add(times_with(board, ahead, outside, asking, parts, start));
+    for (place, outside) in outsides.iter().enumerate() {
+        let addition = additions.get(place);
+        times = times.saturating_add(times_at(board, ahead, outside, asking, addition, start));
     }
     times
 }

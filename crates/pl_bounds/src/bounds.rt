@@ -42,7 +42,13 @@ fn past_by(board: &Board, outsides: &[Outside], run: &Run, mv: &RepairMove) -> u
 {
     let _state = board.state();
     match &run.known.asking {
-        Some(asking) => past_after(board, outsides, asking, run.parts.as_slice(), start_of(mv)),
+        Some(asking) => past_after(
+            board,
+            outsides,
+            asking,
+            run.additions.as_slice(),
+            start_of(mv),
+        ),
         None => 0,
     }
 }

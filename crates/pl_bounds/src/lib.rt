@@ -6,29 +6,36 @@ mod alone;
 mod asking;
 mod bounding;
 mod bounds;
+mod breaches;
+mod choices;
+mod choosing;
 mod crossing;
 mod elsewhere;
+mod ending;
 mod known;
 mod laws;
 mod link_conflicts;
 mod looking;
+mod marks;
 mod merging;
+mod newcomers;
 mod orders;
 mod outside;
-mod pulls;
 mod reading;
+mod remainder;
 mod reopening;
 mod roots;
 mod runs;
+mod seen;
 mod sorting;
 mod standing;
 mod steady;
+mod stepwise;
 mod subtrees;
 mod tally;
 mod ties;
 mod tying;
 mod unset;
-mod until;
 mod untouched;
 mod widening;
 mod window;
@@ -36,6 +43,7 @@ mod worse;
 mod worsening;
 
 pub use bounds::least_of_each;
+pub use choices::least_of_choices;
 pub use laws::{
     laws_of_counts, laws_of_differing, laws_of_moving, laws_of_samples, laws_of_starts,
     laws_of_the_steady, laws_of_values,

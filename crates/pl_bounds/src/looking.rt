@@ -157,3 +157,23 @@ pub(crate) fn looks_across(
     looking.look_at_crossings(board, side, line, bar)?;
     Ok(looking.looks)
 }
+
+/// Looks at one moment, if it lies ahead.
+pub(crate) fn look_ahead(
+    alloc: Global,
+    board: &Board,
+    side: Side,
+    line: u32,
+    at: u32,
+) -> Result<Vec<Look>, AllocError>
+    requires unspoiled { board.now.spoiled ≡ false }
+    requires limited { IsLimited board.now.state side line }
+    ensures { IfOk result (λ looks. AreLooksAt board.now.state side line board.now.state.model.horizon looks.items) }
+{
+    let mut looking = Looking {
+        looks: Vec::new(alloc),
+        next: board.state().moment,
+    };
+    looking.look(board, side, line, at)?;
+    Ok(looking.looks)
+}

@@ -165,6 +165,9 @@ fn unmet_at(board: &Board, own: &Placed, start: u32) -> u32
     requires { board.now.spoiled ≡ false }
     ensures { result ≤ unmet_then board.now.state start (Some own.now) }
 {
+    if own.parent.is_none() {
+        return 0;
+    }
     match placed_at(own, start) {
         Some(child) => unmet_above(board, &child, own.parent),
         None => 0,

@@ -4,14 +4,14 @@ ghost use Rattle.pl_moves.specs.Runs.{CanBeMade};
 ghost use Rattle.pl_semantics.specs.declared.plan_state.PlanState.{PlanState};
 ghost use Rattle.pl_bounds.specs.Asked.{IsAlike};
 ghost use Rattle.pl_bounds.specs.Known.{IsRunOf};
-ghost use Rattle.pl_bounds.specs.Parted.{IsPartOf};
 ghost use Rattle.pl_bounds.specs.Sides.{IsOutsideOf, AreDifferent};
 ghost use Rattle.pl_bounds.specs.Standing.{IsStandingOf};
+ghost use Rattle.pl_bounds.specs.Steps.{IsAdditionOf};
 
 use crate::asking::Asking;
 use crate::known::{Known, known_of};
 use crate::outside::Outside;
-use crate::sorting::{Part, parts_of};
+use crate::sorting::{Addition, additions_of};
 use crate::standing::Standing;
 use crate::worsening::widen;
 use pl_board::Board;
@@ -19,11 +19,11 @@ use pl_moves::goes_on;
 use pl_plan::RepairMove;
 use std::alloc::{AllocError, Global};
 
-/// What is known of such moves, and what they ask for, sorted by timeline.
+/// What is known of such moves, and what they add at each limit that is looked at.
 #[derive(Drop)]
 pub(crate) struct Run {
     pub(crate) known: Known,
-    pub(crate) parts: Vec<Part>,
+    pub(crate) additions: Vec<Addition>,
 }
 
 // Adds the limits that what comes may pass, if the move adds a root. For the many shifts of a choice that would cost more than it saves.
@@ -47,24 +47,24 @@ fn widen_for(
     Ok(())
 }
 
-// What is asked for, sorted by timeline.
-fn parts_for(
+// What is added at each limit that is looked at.
+fn additions_for(
     alloc: Global,
     board: &Board,
     known: &Known,
     past: &mut Vec<Outside>,
-) -> Result<Vec<Part>, AllocError>
+) -> Result<Vec<Addition>, AllocError>
     requires unspoiled { board.now.spoiled ≡ false }
     requires of_plan { All (IsOutsideOf board.now.state) past.old.items }
     requires different { AreDifferent past.old.items }
-    ensures parts { IfOk result (λ parts. IfSome known.now.asking (λ a. All (IsPartOf a) parts.items)) }
+    ensures additions { IfOk result (λ xs. IfSome known.now.asking (λ a. All (IsAdditionOf a) xs.items)) }
     ensures of_plan { OnOk result (All (IsOutsideOf board.now.state) past.new.items) }
     ensures different { OnOk result (AreDifferent past.new.items) }
 {
     match &known.asking {
         Some(asking) => {
             widen_for(alloc, board, &known.first, asking, past)?;
-            Ok(parts_of(alloc, past.as_slice(), asking)?)
+            Ok(additions_of(alloc, past.as_slice(), asking)?)
         }
         None => Ok(Vec::new(alloc)),
     }
@@ -90,8 +90,8 @@ pub(crate) fn run_of(
     ensures different { OnOk result (AreDifferent past.new.items) }
 {
     let known = known_of(alloc, board, standing, mv, !past.is_empty())?;
-    let parts = parts_for(alloc, board, &known, past)?;
-    Ok(Run { known, parts })
+    let additions = additions_for(alloc, board, &known, past)?;
+    Ok(Run { known, additions })
 }
 
 /// What is known of moves that place the same activities as this one, if there is any: the last of the list is asked first.

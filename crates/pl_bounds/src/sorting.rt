@@ -1,145 +1,172 @@
-//! What a move asks for, sorted by timeline: of each timeline that is looked at the part that bears on it.
-ghost use Rattle.std.specs.Prelude.{◌≡◌, ◌==◌, ℕ, ◌+ℤ◌, All, IfOk, OnOk, IfSome};
-ghost use Rattle.pl_bounds.specs.Afterwards.{MakeSame, moved_by, pull, pull_of};
-ghost use Rattle.pl_bounds.specs.Moved.{demand_moved};
-ghost use Rattle.pl_bounds.specs.declared.asking.Asking as asked;
+//! What a move adds to the timelines that are looked at, at each of their limits.
+ghost use Rattle.std.specs.Prelude.{◌≡◌, ◌+ℤ◌, ℕ, All, IfOk, OnOk, IsTrue};
+ghost use Rattle.pl_points.specs.Sums.{total};
+ghost use Rattle.pl_semantics.specs.declared.demand.Asked.TheVariants as wanted;
 ghost use Rattle.pl_bounds.specs.declared.outside.Outside as looked;
-ghost use Rattle.pl_bounds.specs.declared.pulls.Way.{Way};
-ghost use Rattle.pl_bounds.specs.Parted.{MakeSameOn, IsPartOf};
+ghost use Rattle.pl_bounds.specs.declared.outside.Side.TheVariants as sides;
+ghost use Rattle.pl_bounds.specs.declared.stepwise.Way as ways;
+ghost use Rattle.pl_bounds.specs.Steps.{asked_toward, demand_toward, steps_on, IsAdditionOf};
 
 use crate::asking::Asking;
-use crate::outside::Outside;
-use pl_semantics::Demand;
+use crate::outside::{Outside, Side};
+use crate::stepwise::Step;
+use pl_capacity::Use;
+use pl_level::Effect;
+use pl_semantics::{Asked, Demand};
 use std::alloc::{AllocError, Global};
 
-/// What goes and what comes of one timeline.
+/// What a move adds to a timeline, as one of its limits sees it.
 #[derive(Drop)]
-pub(crate) struct Part {
+pub(crate) struct Addition {
     pub(crate) line: u32,
-    pub(crate) going: Vec<Demand>,
-    pub(crate) coming: Vec<Demand>,
+    pub(crate) side: Side,
+    pub(crate) steps: Vec<Step>,
 }
 
-fn is_on(demand: &Demand, line: u32) -> bool
-    ensures { result ≡ (demand.now.line == line) }
-{
-    demand.line == line
+impl Addition {
+    /// Whether it is of this limit of this timeline.
+    pub(crate) fn is_of(&self, outside: &Outside) -> bool
+        ensures line { IsTrue result → outside.now.line ≡ self.now.line }
+        ensures side { IsTrue result → outside.now.side ≡ self.now.side }
+    {
+        outside.line == self.line && outside.side == self.side
+    }
 }
 
-// Puts a demand behind those of one timeline, if it is of that one.
-fn add_if_on(demand: &Demand, line: u32, part: &mut Vec<Demand>) -> Result<(), AllocError>
-    ensures { OnOk result ((o : looked.Outside) (w : Way) (t : ℕ) → o.line ≡ line → pull o t (moved_by w part.new.items) ≡ pull o t (moved_by w part.old.items) +ℤ pull_of o t (demand_moved w.from w.to demand.now)) }
+// A use adds its amount where it begins and takes it back where it ends.
+fn add_span(asked: Use, comes: bool, steps: &mut Vec<Step>) -> Result<(), AllocError>
+    ensures { OnOk result ((o : looked.Outside) (w : ways.Way) (t : ℕ) → o.side ≡ sides.Over
+        → steps_on o w t steps.new.items ≡ steps_on o w t steps.old.items +ℤ asked_toward o.side o.since w t comes (wanted.Use asked)) }
 {
-    if is_on(demand, line) {
-        part.push(*demand)?;
-        Ok(())
+    if asked.from >= asked.to {
+        return Ok(());
+    }
+    let begins = Step::new(asked.from, asked.amount, comes, comes);
+    let ends = Step::new(asked.to, asked.amount, !comes, comes);
+    steps.push(begins)?;
+    steps.push(ends)?;
+    Ok(())
+}
+
+// Uses count where a capacity is looked at.
+fn add_use(side: Side, asked: Use, comes: bool, steps: &mut Vec<Step>) -> Result<(), AllocError>
+    ensures { OnOk result ((o : looked.Outside) (w : ways.Way) (t : ℕ) → o.side ≡ side
+        → steps_on o w t steps.new.items ≡ steps_on o w t steps.old.items +ℤ asked_toward o.side o.since w t comes (wanted.Use asked)) }
+{
+    match side {
+        Side::Over => add_span(asked, comes, steps),
+        Side::Low => Ok(()),
+        Side::High => Ok(()),
+    }
+}
+
+// An effect adds its amount from its moment on.
+fn add_change(asked: Effect, comes: bool, steps: &mut Vec<Step>) -> Result<(), AllocError>
+    ensures low { OnOk result ((o : looked.Outside) (w : ways.Way) (t : ℕ) → o.side ≡ sides.Low
+        → steps_on o w t steps.new.items ≡ steps_on o w t steps.old.items +ℤ asked_toward o.side o.since w t comes (wanted.Effect asked)) }
+    ensures high { OnOk result ((o : looked.Outside) (w : ways.Way) (t : ℕ) → o.side ≡ sides.High
+        → steps_on o w t steps.new.items ≡ steps_on o w t steps.old.items +ℤ asked_toward o.side o.since w t comes (wanted.Effect asked)) }
+{
+    let begins = Step::new(asked.at, asked.delta, comes, comes);
+    steps.push(begins)?;
+    Ok(())
+}
+
+// Effects count where a level is looked at.
+fn add_effect(
+    side: Side,
+    asked: Effect,
+    comes: bool,
+    steps: &mut Vec<Step>,
+) -> Result<(), AllocError>
+    ensures { OnOk result ((o : looked.Outside) (w : ways.Way) (t : ℕ) → o.side ≡ side
+        → steps_on o w t steps.new.items ≡ steps_on o w t steps.old.items +ℤ asked_toward o.side o.since w t comes (wanted.Effect asked)) }
+{
+    match side {
+        Side::Over => Ok(()),
+        Side::Low => add_change(asked, comes, steps),
+        Side::High => add_change(asked, comes, steps),
+    }
+}
+
+// Adds the steps of what a demand asks for.
+fn add_asked(
+    side: Side,
+    demand: &Demand,
+    comes: bool,
+    steps: &mut Vec<Step>,
+) -> Result<(), AllocError>
+    ensures { OnOk result ((o : looked.Outside) (w : ways.Way) (t : ℕ) → o.side ≡ side
+        → steps_on o w t steps.new.items ≡ steps_on o w t steps.old.items +ℤ asked_toward o.side o.since w t comes demand.now.asked) }
+{
+    match demand.asked {
+        Asked::Use(asked) => add_use(side, asked, comes, steps),
+        Asked::Effect(asked) => add_effect(side, asked, comes, steps),
+        Asked::Set(_) => Ok(()),
+        Asked::Must(_) => Ok(()),
+    }
+}
+
+// The same, if the demand is of this timeline.
+fn add_demand(
+    outside: &Outside,
+    demand: &Demand,
+    comes: bool,
+    steps: &mut Vec<Step>,
+) -> Result<(), AllocError>
+    ensures { OnOk result ((o : looked.Outside) (w : ways.Way) (t : ℕ) → o.line ≡ outside.now.line → o.side ≡ outside.now.side
+        → steps_on o w t steps.new.items ≡ steps_on o w t steps.old.items +ℤ demand_toward o w t comes demand.now) }
+{
+    if demand.line == outside.line {
+        add_asked(outside.side, demand, comes, steps)
     } else {
         Ok(())
     }
 }
 
-// The demands of one timeline.
-fn on_line(alloc: Global, demands: &[Demand], line: u32) -> Result<Vec<Demand>, AllocError>
-    ensures { IfOk result (λ part. MakeSameOn line part.items demands.now) }
-{
-    let mut part = Vec::new(alloc);
-    for demand in demands {
-        add_if_on(demand, line, &mut part)?;
-    }
-    Ok(part)
-}
-
-fn part_of(alloc: Global, asking: &Asking, line: u32) -> Result<Part, AllocError>
-    ensures { IfOk result (λ p. IsPartOf asking.now p) }
-{
-    let going = on_line(alloc, asking.going.as_slice(), line)?;
-    let coming = on_line(alloc, asking.coming.as_slice(), line)?;
-    Ok(Part {
-        line,
-        going,
-        coming,
-    })
-}
-
-// The part of a timeline, if it is among these.
-fn part_on<'p>(parts: &'p [Part], line: u32) -> Option<&'p Part>
-    ensures here { IfSome result (λ p. p.now.line ≡ line) }
-    ensures of_move { (a : asked.Asking) → All (IsPartOf a) parts.now → IfSome result (λ p. IsPartOf a p.now) }
-{
-    for part in parts {
-        if part.line == line {
-            return Some(part);
-        }
-    }
-    None
-}
-
-// Adds the part of a timeline that is looked at, if it is not there.
-fn add_part(
-    alloc: Global,
-    asking: &Asking,
+// Adds the steps of those demands that are of this timeline.
+fn add_demands(
     outside: &Outside,
-    parts: &mut Vec<Part>,
+    demands: &[Demand],
+    comes: bool,
+    steps: &mut Vec<Step>,
 ) -> Result<(), AllocError>
-    requires { All (IsPartOf asking.now) parts.old.items }
-    ensures { OnOk result (All (IsPartOf asking.now) parts.new.items) }
+    ensures { OnOk result ((o : looked.Outside) (w : ways.Way) (t : ℕ) → o.line ≡ outside.now.line → o.side ≡ outside.now.side
+        → steps_on o w t steps.new.items ≡ steps_on o w t steps.old.items +ℤ total (demand_toward o w t comes) demands.now) }
 {
-    if outside.is_clear() || part_on(parts.as_slice(), outside.line).is_some() {
-        return Ok(());
+    for demand in demands {
+        add_demand(outside, demand, comes, steps)?;
     }
-    let part = part_of(alloc, asking, outside.line)?;
-    parts.push(part)?;
     Ok(())
 }
 
-/// The parts of all timelines that are looked at. None if nothing comes, since no other move places the same activities at another start.
-pub(crate) fn parts_of(
+fn addition_of(alloc: Global, asking: &Asking, outside: &Outside) -> Result<Addition, AllocError>
+    ensures { IfOk result (IsAdditionOf asking.now) }
+{
+    let going = asking.going.as_slice();
+    let coming = asking.coming.as_slice();
+    let mut steps = Vec::new(alloc);
+    add_demands(outside, going, false, &mut steps)?;
+    add_demands(outside, coming, true, &mut steps)?;
+    Ok(Addition {
+        line: outside.line,
+        side: outside.side,
+        steps,
+    })
+}
+
+/// What a move adds at each of these limits.
+pub(crate) fn additions_of(
     alloc: Global,
     outsides: &[Outside],
     asking: &Asking,
-) -> Result<Vec<Part>, AllocError>
-    ensures { IfOk result (λ parts. All (IsPartOf asking.now) parts.items) }
+) -> Result<Vec<Addition>, AllocError>
+    ensures { IfOk result (λ xs. All (IsAdditionOf asking.now) xs.items) }
 {
-    let mut parts = Vec::new(alloc);
-    if asking.coming.is_empty() {
-        return Ok(parts);
-    }
+    let mut additions = Vec::with_capacity(alloc, outsides.len())?;
     for outside in outsides {
-        add_part(alloc, asking, outside, &mut parts)?;
+        let addition = addition_of(alloc, asking, outside)?;
+        additions.push(addition)?;
     }
-    Ok(parts)
-}
-
-/// Whether something of these parts goes or comes on this timeline.
-pub(crate) fn bears_on(parts: &[Part], line: u32) -> bool {
-    match part_on(parts, line) {
-        Some(part) => !part.going.is_empty() || !part.coming.is_empty(),
-        None => false,
-    }
-}
-
-/// What goes of what bears on a timeline.
-pub(crate) fn going_on<'a>(asking: &'a Asking, parts: &'a [Part], outside: &Outside) -> &'a [Demand]
-    requires { All (IsPartOf asking.now) parts.now }
-    ensures { MakeSame outside.now result.now asking.now.going.items }
-{
-    match part_on(parts, outside.line) {
-        Some(part) => part.going.as_slice(),
-        None => asking.going.as_slice(),
-    }
-}
-
-/// What comes of what bears on a timeline.
-pub(crate) fn coming_on<'a>(
-    asking: &'a Asking,
-    parts: &'a [Part],
-    outside: &Outside,
-) -> &'a [Demand]
-    requires { All (IsPartOf asking.now) parts.now }
-    ensures { MakeSame outside.now result.now asking.now.coming.items }
-{
-    match part_on(parts, outside.line) {
-        Some(part) => part.coming.as_slice(),
-        None => asking.coming.as_slice(),
-    }
+    Ok(additions)
 }

@@ -56,6 +56,9 @@ fn lone_at(board: &Board, own: &Placed, start: u32) -> u32
     requires { board.now.spoiled ≡ false }
     ensures { result ≤ count_of_lone board.now.state start own.now }
 {
+    if links_of(board.model(), own).is_empty() {
+        return 0;
+    }
     match placed_at(own, start) {
         Some(placed) => lone_of(board, &placed),
         None => 0,

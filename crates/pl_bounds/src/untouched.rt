@@ -39,7 +39,14 @@ fn is_left(one: LinkConflict, gone: &[u32], kinds: &[u32], parent: Option<u32>) 
     }
 }
 
-fn count_left(links: &[LinkConflict], gone: &[u32], kinds: &[u32], parent: Option<u32>) -> u32
+/// How many of these conflicts a move leaves that takes out the activities of these ids and places some of these kinds. `parent` is the parent of the
+/// uppermost of these activities, if it has one.
+pub(crate) fn count_left(
+    links: &[LinkConflict],
+    gone: &[u32],
+    kinds: &[u32],
+    parent: Option<u32>,
+) -> u32
     ensures { result ≤ length (filter (is_left gone.now kinds.now parent) links.now) }
 {
     let mut count = 0;

@@ -46,8 +46,8 @@ impl Outside {
     }
 }
 
-// The place at which this side of the timeline stands, if it is among these.
-fn place_of(all: &[Outside], side: Side, line: u32) -> Option<usize>
+/// The place at which this side of the timeline stands, if it is among these.
+pub(crate) fn place_of(all: &[Outside], side: Side, line: u32) -> Option<usize>
     ensures { IfSome result (λ place. place < length all.now) }
 {
     let mut place = 0;

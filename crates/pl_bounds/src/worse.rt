@@ -4,17 +4,6 @@ ghost use Rattle.std.specs.Prelude.{◌≤◌, ◌<◌, IfSome};
 use crate::added::{Added, Change};
 use crate::outside::{Outside, Side};
 use crate::reading::is_past;
-use pl_semantics::Asked;
-
-// From which moment on a demand makes this side of its timeline worse, if it does.
-fn worsens(side: Side, asked: &Asked) -> Option<u32> {
-    match (side, asked) {
-        (Side::Over, Asked::Use(u)) => Some(u.from),
-        (Side::Low, Asked::Effect(e)) if e.delta < 0 => Some(e.at),
-        (Side::High, Asked::Effect(e)) if 0 < e.delta => Some(e.at),
-        _ => None,
-    }
-}
 
 /// A moment from `from` on and before `to` at which what comes makes the timeline worse, if there is one.
 pub(crate) fn worse_within(
@@ -25,12 +14,9 @@ pub(crate) fn worse_within(
 ) -> Option<u32>
     ensures { IfSome result (λ at. (from ≤ at) × (at < to)) }
 {
-    for demand in change.coming {
-        if demand.line != outside.line {
-            continue;
-        }
-        if let Some(t) = worsens(outside.side, &demand.asked) {
-            let at = change.way.moved(t);
+    for step in change.steps {
+        if step.worsens(outside.side) {
+            let at = step.moment(change.way);
             if u64::from(from) <= at && at < u64::from(to) {
                 return Some(at as u32);
             }

@@ -1,4 +1,3 @@
-use Rattle.pl_bounds.specs.Afterwards.{moved_by}
 use Rattle.pl_bounds.proofs.bounding.gone_anew.Goals as goal
 
 pub returns : goal.returns
@@ -6,6 +5,6 @@ returns c =
     let s = c.args.board.now.state in
     let change = c.args.change.now in
     record {
-      tally = c.looked_at.ensures s s.moment s.model.horizon change.going.now (moved_by change.way change.coming.now) c.requires.right c.added_at-added.ensures c.looked_between-before.ensures;
+      tally = c.looked_at.ensures s s.moment s.model.horizon change.way change.steps.now c.requires.right c.added_at-added.ensures c.looked_between-before.ensures;
       added = c.added_at-added.ensures;
     }

@@ -1,7 +1,7 @@
 use Rattle.pl_bounds.proofs.bounding.gone_on.Goals as goal
 
 pub returns : goal.returns
-returns c = λ s going coming right walk. record {
-  tally = c.looked_at.ensures s s.moment s.model.horizon going coming right walk.added walk.tally;
+returns c = λ s w steps right walk. record {
+  tally = c.looked_at.ensures s s.moment s.model.horizon w steps right walk.added walk.tally;
   added = walk.added;
 }

@@ -8,5 +8,5 @@ returns c = λ gone more can once asked.
     let s = c.args.board.now.state in
     let whole : IsWhole s = subst IsWhole c.state-s.ensures.value (c.state-s.ensures.whole c.requires.unspoiled) in
     let same = times_same s gone more whole can once c.args.asking.now c.args.start asked c.args.outsides.now c.requires.of_plan in
-    let few = c.loop-outside.invariant in
+    let few = c.loop-place.invariant in
     omega (arith, few, same)

@@ -1,15 +1,15 @@
-use Rattle.pl_bounds.specs.Afterwards.{is_past_with, moved_by}
+use Rattle.pl_bounds.specs.Steps.{is_past_by}
 use Rattle.pl_bounds.proofs.Tallied.{times_few}
 use Rattle.pl_bounds.proofs.bounding.times_behind.Goals as goal
 
-pub returns-then-is_steady : goal.returns-then-is_steady
-returns-then-is_steady c =
+pub returns-then-not-may_be_past_behind : goal.returns-then-not-may_be_past_behind
+returns-then-not-may_be_past_behind c =
     let s = c.args.board.now.state in
     let change = c.args.change.now in
-    times_few (is_past_with s c.args.outside.now change.going.now (moved_by change.way change.coming.now)) s.moment s.model.horizon c.args.walk.tally c.requires.walk.tally
+    times_few (is_past_by s c.args.outside.now change.way change.steps.now) s.moment s.model.horizon c.args.walk.tally c.requires.walk.tally
 
-pub returns-else-is_steady : goal.returns-else-is_steady
-returns-else-is_steady c =
+pub returns-else-not-may_be_past_behind : goal.returns-else-not-may_be_past_behind
+returns-else-not-may_be_past_behind c =
     let s = c.args.board.now.state in
     let change = c.args.change.now in
-    times_few (is_past_with s c.args.outside.now change.going.now (moved_by change.way change.coming.now)) s.moment s.model.horizon c.looked_between.result c.looked_between.ensures
+    times_few (is_past_by s c.args.outside.now change.way change.steps.now) s.moment s.model.horizon c.looked_before.result c.looked_before.ensures

@@ -5,16 +5,16 @@ use Rattle.pl_semantics.specs.Whole.{IsWhole}
 use Rattle.pl_update.specs.Changes.Replaced.{with_plan}
 use Rattle.pl_moves.specs.Changes.{gone_by, placed_by}
 use Rattle.pl_bounds.specs.Asked.{IsAskedBy}
-use Rattle.pl_bounds.specs.Parted.{IsPartOf}
 use Rattle.pl_bounds.specs.Sides.{HasLimit, times_past}
-use Rattle.pl_bounds.specs.declared.sorting.Part.{Part}
+use Rattle.pl_bounds.specs.Steps.{IsAdditionOf}
+use Rattle.pl_bounds.specs.declared.sorting.Addition.{Addition}
 use Rattle.pl_bounds.proofs.Summing.{leaves, leaves_both, can_place, once_gone}
 use Rattle.pl_bounds.proofs.bounds.past_by.Goals as goal
 
-pub past_after-requires-clause-parts : goal.past_after-requires-clause-parts
-past_after-requires-clause-parts c =
-    let parts = rw c.in-Some.is at c.requires.run.parts in
-    subst (λ (ps : List Part). All (IsPartOf c.in-Some.asking) ps) (sym c.as_slice.ensures.value) parts
+pub past_after-requires-clause-additions : goal.past_after-requires-clause-additions
+past_after-requires-clause-additions c =
+    let all = rw c.in-Some.is at c.requires.run.additions in
+    subst (λ (xs : List Addition). All (IsAdditionOf c.in-Some.asking) xs) (sym c.as_slice.ensures.value) all
 
 pub returns-in-Some : goal.returns-in-Some
 returns-in-Some c =

@@ -1,4 +1,4 @@
-use Rattle.std.proofs.Common.{◌≡◌, ◌≤◌, List, ℕ, subst, arith}
+use Rattle.std.proofs.Common.{◌≤◌, List, ℕ, subst, arith}
 use Rattle.std.specs.Prelude.{filter, length}
 use Rattle.pl_conflict.specs.declared.conflict.Conflict.{Conflict}
 use Rattle.pl_plan.specs.Trees.{subtree_of}
