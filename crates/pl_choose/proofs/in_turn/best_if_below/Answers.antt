@@ -3,7 +3,7 @@ use Rattle.pl_semantics.specs.Whole.{IsWhole}
 use Rattle.pl_board.specs.Boards.{Standing}
 use Rattle.pl_moves.proofs.Trying.{can_undo_then, home, last_state}
 use Rattle.pl_choose.proofs.InTurn.{any, at_within, made_by, undone_by}
-use Rattle.pl_choose.proofs.in_turn.best_in_turn.Goals as goal
+use Rattle.pl_choose.proofs.in_turn.best_if_below.Goals as goal
 
 pub bounds-stages-progress : goal.bounds-stages-progress
 bounds-stages-progress c =
