@@ -177,17 +177,3 @@ pub fn least_of_each(
         Ok(least_alone(alloc, board, moves)?)
     }
 }
-
-/// The same of moves that choose an alternative of an activity.
-pub fn least_of_choices(
-    alloc: Global,
-    board: &Board,
-    moves: &[RepairMove],
-) -> Result<Vec<u32>, AllocError>
-    requires unspoiled { board.now.spoiled ≡ false }
-    requires next { board.now.state.next_id ≤ 3999999000 }
-    requires allowed { All (CanBeMade board.now.state) moves.now }
-    ensures { IfOk result (λ ns. AreLeast board.now.state moves.now ns.items) }
-{
-    Ok(least_alone(alloc, board, moves)?)
-}

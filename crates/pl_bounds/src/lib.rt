@@ -35,7 +35,7 @@ mod window;
 mod worse;
 mod worsening;
 
-pub use bounds::{least_of_choices, least_of_each};
+pub use bounds::least_of_each;
 pub use laws::{
     laws_of_counts, laws_of_differing, laws_of_moving, laws_of_samples, laws_of_starts,
     laws_of_the_steady, laws_of_values,

@@ -39,11 +39,11 @@ no_more b m left = by (nat_lt left b.left) refl
 -- the best of them has its own number
 pub counted : (f : RepairMove → ℕ) (b : Best) (xs : List RepairMove) → b.left ≡ f b.mv → (best_of f b xs).left ≡ f (best_of f b xs).mv
 counted f b [] e = e
-counted f b (x ∷ xs) e = by (nat_lt (f x) b.left)
+counted f b (x ∷ xs) e = by (nat_lt (f x) b.left) (counted f (best x (f x)) xs refl) (counted f b xs e)
   where
-    by : (c : Bool) → (best_of f (if c then best x (f x) else b) xs).left ≡ f (best_of f (if c then best x (f x) else b) xs).mv
-    by true = counted f (best x (f x)) xs refl
-    by false = counted f b xs e
+    by : (c : Bool) → (best_of f (best x (f x)) xs).left ≡ f (best_of f (best x (f x)) xs).mv → (best_of f b xs).left ≡ f (best_of f b xs).mv → (best_of f (if c then best x (f x) else b) xs).left ≡ f (best_of f (if c then best x (f x) else b) xs).mv
+    by true this other = this
+    by false this other = other
 
 -- ---- what may be passed over
 
@@ -246,7 +246,7 @@ has_low f n b (x ∷ xs) le lt = by (nat_lt (f x) b.left) refl (nat_lt (f x) n) 
   where
     by : (p : Bool) → nat_lt (f x) b.left ≡ p → (q : Bool) → nat_lt (f x) n ≡ q → ((c : Best) → n ≤ c.left → (best_of f c xs).left < n → HasBelow f n c.left xs) → (best_of f (if p then best x (f x) else b) xs).left < n → HasBelow f n b.left (x ∷ xs)
     by true e true g again few = inl (ltb-true (f x) n g, ltb-true (f x) b.left e)
-    by true e false g again few = let lt_b : f x < b.left = ltb-true (f x) b.left e in inr (below_second f n (f x) b.left xs (omega (arith, lt_b)) (again (best x (f x)) (ltb-false (f x) n g) few))
+    by true e false g again few = inr (below_first f n (f x) b.left xs le (again (best x (f x)) (ltb-false (f x) n g) few))
     by false e q g again few = inr (again b le few)
 
 -- The best of those below a number, begun with this number, is the best of all, if it leaves fewer.
@@ -277,7 +277,7 @@ to_fewest s c (x ∷ xs) m lt is = found s x xs (left_after s x) (best_of (left_
         let high : c.left ≤ left_after s x = ltb-false (left_after s x) c.left e in
         let left : (best_of (left_after s) c xs).left ≡ left_after s m = ap (λ (b : Best). b.left) whole in
         let below : HasBelow (left_after s) c.left c.left xs = has_low (left_after s) c.left c xs (omega arith) (omega (arith, left, lt)) in
-        from_any (left_after s) (best x (left_after s x)) c xs (below_first (left_after s) c.left c.left (left_after s x) xs high below) ∙ whole
+        from_any (left_after s) (best x (left_after s x)) c xs (below_second (left_after s) c.left c.left (left_after s x) xs high below) ∙ whole
 
 -- what is best of those that may be better is best of all, if it leaves fewer than this number
 pub fewest_of_all : (s : PlanState) (c : Best) (ms kept : List RepairMove) (ns : List ℕ) (m : RepairMove) → AreHopes s c ms kept ns → left_after s m < c.left → fewest s kept ≡ Some m → fewest s ms ≡ Some m

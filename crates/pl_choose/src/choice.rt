@@ -1,6 +1,6 @@
 //! The moves that choose an alternative of one activity, and the one that deletes it. Mostly the alternatives are known to leave more
 //! conflicts than stand, and the deletion leaves as many. So the moves that are known to leave more are left out at first.
-ghost use Rattle.std.specs.Prelude.{◌≡◌, ◌<◌, false, true, All, IfOk, OnErr, Some, length, map};
+ghost use Rattle.std.specs.Prelude.{◌≡◌, ◌<◌, ◌≤◌, false, true, All, IfOk, OnErr, Some, length, map};
 ghost use Rattle.pl_moves.specs.Changes.{IsOfActivities};
 ghost use Rattle.pl_choose.specs.Choice.{IsFewestBelow, IsPickedIf};
 ghost use Rattle.pl_choose.specs.Found.{IsAllowed};
@@ -15,7 +15,7 @@ use crate::purpose::Purpose;
 use crate::stages::{Stage, stages_of, take_out};
 use crate::want::or_spoil;
 use pl_board::Board;
-use pl_bounds::least_of_choices;
+use pl_bounds::least_of_each;
 use pl_plan::RepairMove;
 use std::alloc::{AllocError, Global};
 
@@ -97,7 +97,7 @@ pub(crate) fn pick_of_hopeful(
     let Some(any) = moves.first() else {
         return Ok(None);
     };
-    let told = least_of_choices(alloc, board, moves);
+    let told = least_of_each(alloc, board, moves);
     let bounds = or_spoil(board, told)?;
     let best = Best {
         mv: *any,

@@ -33,10 +33,3 @@ reset_next-requires-clause-most c =
     let undone = undone_by c.args.board.now.state whole c.args.stages.now _ c.requires.stages c.requires.same c.in_ok-progress.progress c.try_each.new.board c.in_ok-progress.ensures c.index-stages-progress.result c.index-stages-progress.is in
     let made = made_by c.args.board.now.state whole c.args.stages.now _ c.requires.stages c.requires.same c.in_ok-progress.progress c.try_each.new.board c.in_ok-progress.ensures c.index-stages-progress.result c.index-stages-progress.is in
     rw (c.state.ensures.value, last_state c.args.board.now _ _ _ _ _ undone c.try_each.new.board made c.make_change.new.board c.in_ok-make_change.ensures.ok) undone.next
-
-pub returns-clause-same : goal.returns-clause-same
-returns-clause-same c =
-    let whole : IsWhole c.args.board.now.state = rw c.state.ensures.value at (c.state.ensures.whole c.requires.unspoiled) in
-    let undone = undone_by c.args.board.now.state whole c.args.stages.now _ c.requires.stages c.requires.same c.in_ok-progress.progress c.try_each.new.board c.in_ok-progress.ensures c.index-stages-progress.result c.index-stages-progress.is in
-    let made = made_by c.args.board.now.state whole c.args.stages.now _ c.requires.stages c.requires.same c.in_ok-progress.progress c.try_each.new.board c.in_ok-progress.ensures c.index-stages-progress.result c.index-stages-progress.is in
-    home c.args.board.now _ _ _ _ _ undone c.try_each.new.board made c.make_change.new.board c.in_ok-make_change.ensures.ok c.requires.unspoiled _ (ap (λ s. s.next_id) c.state.ensures.value) _ c.reset_next.ensures
