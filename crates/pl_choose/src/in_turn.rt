@@ -5,6 +5,7 @@ ghost use Rattle.pl_semantics.specs.Whole.{IsWhole};
 ghost use Rattle.pl_update.specs.Changes.Changes.{with_next};
 ghost use Rattle.pl_board.specs.Boards.{after};
 ghost use Rattle.pl_choose.specs.Picked.{IsPicked};
+ghost use Rattle.pl_choose.specs.declared.purpose.Purpose.TheVariants.{Mend};
 ghost use Rattle.pl_choose.specs.Picks.{fewest};
 ghost use Rattle.pl_choose.specs.Stages.{CanStandInstead, IsStage, TakesOut, instead, move_of, next_behind};
 ghost use Rattle.pl_choose.specs.Tried.{better_of};
@@ -123,6 +124,17 @@ fn is_below(left: usize, fewer: Option<usize>) -> bool
     }
 }
 
+// Whether the best of the moves stays made.
+fn stays_made(purpose: Purpose, is_best: bool) -> bool
+    ensures mends { result ≡ true → purpose ≡ Mend }
+    ensures best { result ≡ true → is_best ≡ true }
+{
+    match purpose {
+        Purpose::Propose => false,
+        Purpose::Mend => is_best,
+    }
+}
+
 // The best of the moves, if it leaves fewer conflicts than this, if a number is given. Otherwise the board is as it was.
 fn best_if_below(
     alloc: Global,
@@ -142,7 +154,7 @@ fn best_if_below(
     let progress = try_each(alloc, board, stages, next)?;
     let made = &stages[progress.at];
     let is_best = is_below(progress.best.left, fewer);
-    if is_best && purpose == Purpose::Mend {
+    if stays_made(purpose, is_best) {
         if progress.place != progress.at {
             make_instead(board, made, &stages[progress.place], next)?;
         }
