@@ -21,7 +21,7 @@ use Rattle.pl_choose.specs.Stages.{CanStandInstead, IsStage, TakesOut, instead, 
 use Rattle.pl_choose.specs.Tried.{better_of, best_of}
 use Rattle.pl_choose.specs.InTurn.{AreTried, gone_in}
 use Rattle.pl_choose.proofs.Instead.{can_stand, stood}
-use Rattle.pl_choose.proofs.Trying.{best, all_tried, found, next_tried, none_better}
+use Rattle.pl_choose.proofs.Trying.{best, all_tried, counted, found, next_tried, none_better}
 
 -- some move, for a place where there is none
 abbrev pub any : RepairMove
@@ -90,6 +90,7 @@ tried s moves t now so_far is = record {
   reached = so_far.reached;
   there = λ d. get_or_default moves t.place d any so_far.reached ∙ so_far.there;
   best = fewest_all s moves t.best (let lt : t.at < length moves = so_far.within in omega (arith, lt)) is;
+  left = subst (λ (b : Best). b.left ≡ left_after s b.mv) (sym is) (counted (left_after s) (best (get_or moves 0 any) (left_after s (get_or moves 0 any))) (drop 1 moves) refl);
 }
 
 -- none is left

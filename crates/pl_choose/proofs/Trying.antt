@@ -1,6 +1,7 @@
 -- Moves that are tried in turn: which may be passed over, and that it makes no difference with which one is begun.
 use Rattle.std.proofs.Common.{◌≡◌, ℕ, zero, suc, ◌+◌, ◌≤◌, ◌<◌, Bool, true, false, cond, List, [], ◌∷◌, ◌++◌, length, get_or, take, drop, refl, sym, ap, subst, ◌∙◌, arith, inl, inr}
 use Rattle.std.specs.Prelude.{◌⊎◌, All, Some, nat_lt, if◌then◌else◌}
+use Rattle.std.proofs.lemmas.Option.{same_Some}
 use Rattle.std.proofs.lemmas.Bool.{ltb-false, lt-ltb, le-ltb, ltb-true}
 use Rattle.std.proofs.lemmas.List.{take-append-drop, drop_all, drop_more}
 use Rattle.std.proofs.Math.Seq.{take-add}
@@ -34,6 +35,15 @@ no_more b m left = by (nat_lt left b.left) refl
     by : (c : Bool) → nat_lt left b.left ≡ c → (if c then best m left else b).left ≤ b.left
     by true e = let lt : left < b.left = ltb-true left b.left e in omega (arith, lt)
     by false e = omega arith
+
+-- the best of them has its own number
+pub counted : (f : RepairMove → ℕ) (b : Best) (xs : List RepairMove) → b.left ≡ f b.mv → (best_of f b xs).left ≡ f (best_of f b xs).mv
+counted f b [] e = e
+counted f b (x ∷ xs) e = by (nat_lt (f x) b.left) (counted f (best x (f x)) xs refl) (counted f b xs e)
+  where
+    by : (c : Bool) → (best_of f (best x (f x)) xs).left ≡ f (best_of f (best x (f x)) xs).mv → (best_of f b xs).left ≡ f (best_of f b xs).mv → (best_of f (if c then best x (f x) else b) xs).left ≡ f (best_of f (if c then best x (f x) else b) xs).mv
+    by true this other = this
+    by false this other = other
 
 -- ---- what may be passed over
 
@@ -227,3 +237,48 @@ found s m ms left last is all =
 
 pub found_first : (s : PlanState) (m : RepairMove) (ms : List RepairMove) (left : ℕ) → left ≡ left_after s m → All (λ x. left ≤ left_after s x) ms → fewest s (m ∷ ms) ≡ Some m
 found_first s m ms left is all = found s m ms left (best m left) is (sym (none_better (left_after s) (best m left) ms all))
+
+-- ---- those that are known to leave no fewer than a number
+
+has_low : (f : RepairMove → ℕ) (n : ℕ) (b : Best) (xs : List RepairMove) → n ≤ b.left → (best_of f b xs).left < n → HasBelow f n b.left xs
+has_low f n b [] le lt = absurd (omega (arith, le, lt))
+has_low f n b (x ∷ xs) le lt = by (nat_lt (f x) b.left) refl (nat_lt (f x) n) refl (λ c low few. has_low f n c xs low few) lt
+  where
+    by : (p : Bool) → nat_lt (f x) b.left ≡ p → (q : Bool) → nat_lt (f x) n ≡ q → ((c : Best) → n ≤ c.left → (best_of f c xs).left < n → HasBelow f n c.left xs) → (best_of f (if p then best x (f x) else b) xs).left < n → HasBelow f n b.left (x ∷ xs)
+    by true e true g again few = inl (ltb-true (f x) n g, ltb-true (f x) b.left e)
+    by true e false g again few = inr (below_first f n (f x) b.left xs le (again (best x (f x)) (ltb-false (f x) n g) few))
+    by false e q g again few = inr (again b le few)
+
+-- The best of those below a number, begun with this number, is the best of all, if it leaves fewer.
+pub from_number : (s : PlanState) (c : Best) (ms : List RepairMove) (m : RepairMove) → left_after s m < c.left → fewest s ms ≡ Some m → best_of (left_after s) c ms ≡ best m (left_after s m)
+from_number s c [] m lt none = absurd (cc)
+from_number s c (x ∷ xs) m lt is =
+    let f : RepairMove → ℕ = left_after s in
+    let b : Best = best_of f (best x (f x)) xs in
+    let mv : b.mv ≡ m = same_Some b.mv m (sym (found s x xs (f x) b refl refl) ∙ is) in
+    let left : b.left ≡ f m = counted f (best x (f x)) xs refl ∙ ap f mv in
+    let whole : b ≡ best m (f m) = ap (λ (y : RepairMove). best y b.left) mv ∙ ap (λ (n : ℕ). best m n) left in
+    by (nat_lt (f x) c.left) refl left whole
+  where
+    by : (q : Bool) → nat_lt (left_after s x) c.left ≡ q → (best_of (left_after s) (best x (left_after s x)) xs).left ≡ left_after s m → best_of (left_after s) (best x (left_after s x)) xs ≡ best m (left_after s m) → best_of (left_after s) (if q then best x (left_after s x) else c) xs ≡ best m (left_after s m)
+    by true e left whole = whole
+    by false e left whole =
+        let high : c.left ≤ left_after s x = ltb-false (left_after s x) c.left e in
+        let below : HasBelow (left_after s) c.left (left_after s x) xs = has_low (left_after s) c.left (best x (left_after s x)) xs high (omega (arith, left, lt)) in
+        from_any (left_after s) c (best x (left_after s x)) xs below ∙ whole
+
+pub to_fewest : (s : PlanState) (c : Best) (ms : List RepairMove) (m : RepairMove) → left_after s m < c.left → best_of (left_after s) c ms ≡ best m (left_after s m) → fewest s ms ≡ Some m
+to_fewest s c [] m lt is = absurd (let e : c.left ≡ left_after s m = ap (λ (b : Best). b.left) is in omega (arith, e, lt))
+to_fewest s c (x ∷ xs) m lt is = found s x xs (left_after s x) (best_of (left_after s) (best x (left_after s x)) xs) refl refl ∙ ap (λ (b : Best). Some b.mv) (by (nat_lt (left_after s x) c.left) refl is)
+  where
+    by : (q : Bool) → nat_lt (left_after s x) c.left ≡ q → best_of (left_after s) (if q then best x (left_after s x) else c) xs ≡ best m (left_after s m) → best_of (left_after s) (best x (left_after s x)) xs ≡ best m (left_after s m)
+    by true e whole = whole
+    by false e whole =
+        let high : c.left ≤ left_after s x = ltb-false (left_after s x) c.left e in
+        let left : (best_of (left_after s) c xs).left ≡ left_after s m = ap (λ (b : Best). b.left) whole in
+        let below : HasBelow (left_after s) c.left c.left xs = has_low (left_after s) c.left c xs (omega arith) (omega (arith, left, lt)) in
+        from_any (left_after s) (best x (left_after s x)) c xs (below_second (left_after s) c.left c.left (left_after s x) xs high below) ∙ whole
+
+-- what is best of those that may be better is best of all, if it leaves fewer than this number
+pub fewest_of_all : (s : PlanState) (c : Best) (ms kept : List RepairMove) (ns : List ℕ) (m : RepairMove) → AreHopes s c ms kept ns → left_after s m < c.left → fewest s kept ≡ Some m → fewest s ms ≡ Some m
+fewest_of_all s c ms kept ns m hopes lt is = to_fewest s c ms m lt (sym hopes.best_is ∙ from_number s c kept m lt is)

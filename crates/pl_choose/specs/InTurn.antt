@@ -3,6 +3,7 @@ use Rattle.std.specs.Prelude.{◌≡◌, ◌<◌, List, [], ◌∷◌, ℕ, leng
 use Rattle.pl_plan.specs.declared.repair.RepairMove.{RepairMove}
 use Rattle.pl_semantics.specs.declared.plan_state.PlanState.{PlanState}
 use Rattle.pl_semantics.specs.Moves.{applied}
+use Rattle.pl_semantics.specs.Legal.{left_after}
 use Rattle.pl_board.specs.Boards.{Standing, after}
 use Rattle.pl_choose.specs.declared.stages.Stage.{Stage}
 use Rattle.pl_choose.specs.declared.in_turn.Progress.{Progress}
@@ -21,3 +22,4 @@ pub record AreTried (s : PlanState) (moves : List RepairMove) (t : Progress) (no
   pub reached : t.place < length moves
   pub there : (d : RepairMove) → slice_index_or moves t.place d ≡ t.best.mv
   pub best : fewest s moves ≡ Some t.best.mv
+  pub left : t.best.left ≡ left_after s t.best.mv

@@ -9,4 +9,5 @@ pub mod Aimed
 pub mod Stretches
 pub mod Stages
 pub mod InTurn
+pub mod Choice
 pub mod Promising

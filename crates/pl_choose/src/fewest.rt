@@ -13,10 +13,12 @@ use crate::aiming::pick_by_aims;
 use crate::alone::{Alone, try_alone};
 use crate::best::Best;
 use crate::bounded::{bounds_of, lowest_of};
+use crate::choice::pick_of_hopeful;
 use crate::in_turn::pick_in_turn;
 use crate::picked::Picked;
 use crate::purpose::{Purpose, enough_for};
 use crate::stages::{Stage, are_of_one, stages_of, take_out};
+use crate::want::or_spoil;
 use pl_board::Board;
 use pl_moves::least_left;
 use pl_plan::RepairMove;
@@ -169,8 +171,8 @@ fn pick_by_stages(
     pick_by_bounds(alloc, board, first, rest, purpose)
 }
 
-// The best of the first and the others, each of which chooses an alternative of one activity or deletes it.
-fn pick_of_choice(
+// The best of the first and the others, each of which chooses an alternative of one activity or deletes it, all of which are tried.
+fn pick_of_all(
     alloc: Global,
     board: &mut Board,
     first: &RepairMove,
@@ -185,25 +187,47 @@ fn pick_of_choice(
     ensures picked { IfOk result (λ p. IsPicked purpose (λ m. fewest board.old.state (first.now ∷ rest.now) ≡ Some m) board.old p board.new) }
     ensures err { OnErr result (board.new.spoiled ≡ true) }
 {
-    match stages_of(alloc, board.state(), first, rest) {
-        Ok(stages) => pick_by_stages(alloc, board, first, rest, &stages, purpose),
-        Err(fault) => {
-            board.spoil();
-            Err(fault)
-        }
-    }
+    let staged = stages_of(alloc, board.state(), first, rest);
+    let stages = or_spoil(board, staged)?;
+    pick_by_stages(alloc, board, first, rest, &stages, purpose)
 }
 
-// The best of the first and the others.
-fn pick(
+// The best of the moves, of which these are the first and the others. Each chooses an alternative of one activity or deletes it.
+fn pick_of_choice(
     alloc: Global,
     board: &mut Board,
+    moves: &[RepairMove],
     first: &RepairMove,
     rest: &[RepairMove],
     purpose: Purpose,
 ) -> Result<Picked, AllocError>
     requires unspoiled { board.old.spoiled ≡ false }
     requires next { board.old.state.next_id ≤ 3999999000 }
+    requires moves { moves.now ≡ first.now ∷ rest.now }
+    requires first { IsAllowed board.old.state first.now }
+    requires rest { All (IsAllowed board.old.state) rest.now }
+    requires activities { All IsOfActivities (first.now ∷ rest.now) }
+    ensures picked { IfOk result (λ p. IsPicked purpose (λ m. fewest board.old.state (first.now ∷ rest.now) ≡ Some m) board.old p board.new) }
+    ensures err { OnErr result (board.new.spoiled ≡ true) }
+{
+    match pick_of_hopeful(alloc, board, moves, purpose)? {
+        Some(picked) => Ok(picked),
+        None => pick_of_all(alloc, board, first, rest, purpose),
+    }
+}
+
+// The best of the moves, of which these are the first and the others.
+fn pick(
+    alloc: Global,
+    board: &mut Board,
+    moves: &[RepairMove],
+    first: &RepairMove,
+    rest: &[RepairMove],
+    purpose: Purpose,
+) -> Result<Picked, AllocError>
+    requires unspoiled { board.old.spoiled ≡ false }
+    requires next { board.old.state.next_id ≤ 3999999000 }
+    requires moves { moves.now ≡ first.now ∷ rest.now }
     requires first { IsAllowed board.old.state first.now }
     requires rest { All (IsAllowed board.old.state) rest.now }
     ensures picked { IfOk result (λ p. IsPicked purpose (λ m. fewest board.old.state (first.now ∷ rest.now) ≡ Some m) board.old p board.new) }
@@ -213,7 +237,7 @@ fn pick(
         return Ok(Picked::Found(*first));
     }
     if are_of_one(first, rest) {
-        return pick_of_choice(alloc, board, first, rest, purpose);
+        return pick_of_choice(alloc, board, moves, first, rest, purpose);
     }
     pick_by_bounds(alloc, board, first, rest, purpose)
 }
@@ -234,5 +258,5 @@ pub(crate) fn fewest(
     let Some((first, rest)) = moves.split_first() else {
         return Ok(None);
     };
-    Ok(Some(pick(alloc, board, first, rest, purpose)?))
+    Ok(Some(pick(alloc, board, moves, first, rest, purpose)?))
 }

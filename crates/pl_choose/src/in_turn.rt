@@ -1,15 +1,16 @@
 //! Moves that take out the same activities are tried in turn, each in place of the one before. So the board changes once for each.
-ghost use Rattle.std.specs.Prelude.{◌≡◌, ◌⊎◌, ◌<◌, ◌+◌, ◌^◌, true, false, All, map, length, Some, IfOk, OnOk, OnErr};
+ghost use Rattle.std.specs.Prelude.{◌≡◌, ◌⊎◌, ◌<◌, ◌+◌, ◌^◌, true, false, All, map, length, Some, None, is_some, IfOk, OnOk, OnErr};
 ghost use Rattle.pl_semantics.specs.Conflicts.{conflicts_of};
-ghost use Rattle.pl_semantics.specs.Moves.{applied};
 ghost use Rattle.pl_semantics.specs.Whole.{IsWhole};
 ghost use Rattle.pl_update.specs.Changes.Changes.{with_next};
 ghost use Rattle.pl_board.specs.Boards.{after};
 ghost use Rattle.pl_choose.specs.Picked.{IsPicked};
+ghost use Rattle.pl_choose.specs.declared.purpose.Purpose.TheVariants.{Mend};
 ghost use Rattle.pl_choose.specs.Picks.{fewest};
 ghost use Rattle.pl_choose.specs.Stages.{CanStandInstead, IsStage, TakesOut, instead, move_of, next_behind};
 ghost use Rattle.pl_choose.specs.Tried.{better_of};
 ghost use Rattle.pl_choose.specs.InTurn.{AreTried, gone_in};
+ghost use Rattle.pl_choose.specs.Choice.{IsFewestBelow, IsPickedIf, is_below};
 
 use crate::best::Best;
 use crate::picked::Picked;
@@ -113,64 +114,83 @@ fn try_each(
     Ok(progress)
 }
 
-// The best of the moves. The one that was made last is undone.
-fn best_in_turn(
+// Whether a number of conflicts is below this one, if it is given.
+fn is_below(left: usize, fewer: Option<usize>) -> bool
+    ensures { result ≡ is_below fewer left }
+{
+    match fewer {
+        Some(fewer) => left < fewer,
+        None => true,
+    }
+}
+
+// Whether the best of the moves stays made.
+fn stays_made(purpose: Purpose, is_best: bool) -> bool
+    ensures mends { result ≡ true → purpose ≡ Mend }
+    ensures best { result ≡ true → is_best ≡ true }
+{
+    match purpose {
+        Purpose::Propose => false,
+        Purpose::Mend => is_best,
+    }
+}
+
+// The best of the moves, if it leaves fewer conflicts than this, if a number is given. Otherwise the board is as it was.
+fn best_if_below(
     alloc: Global,
     board: &mut Board,
     stages: &[Stage],
-) -> Result<RepairMove, AllocError>
+    fewer: Option<usize>,
+    purpose: Purpose,
+) -> Result<Option<Picked>, AllocError>
     requires unspoiled { board.old.spoiled ≡ false }
     requires some { 0 < length stages.now }
     requires stages { All (IsStage board.old.state) stages.now }
     requires same { All (TakesOut (gone_in stages.now)) stages.now }
-    ensures best { IfOk result (λ m. fewest board.old.state (map move_of stages.now) ≡ Some m) }
-    ensures same { OnOk result (board.new ≡ board.old) }
+    ensures picked { IfOk result (λ p. IsPickedIf purpose (IsFewestBelow board.old.state (map move_of stages.now) fewer) board.old p board.new) }
+    ensures found { IfOk result (λ p. fewer ≡ None → is_some p ≡ true) }
 {
     let next = board.state().next_id;
     let progress = try_each(alloc, board, stages, next)?;
     let made = &stages[progress.at];
+    let is_best = is_below(progress.best.left, fewer);
+    if stays_made(purpose, is_best) {
+        if progress.place != progress.at {
+            make_instead(board, made, &stages[progress.place], next)?;
+        }
+        return Ok(Some(Picked::Made(progress.best.mv)));
+    }
     make_change(board, &made.trial.undo, &mut Steps::new(Quiet))?;
     board.reset_next(next);
-    Ok(progress.best.mv)
-}
-
-// The best of the moves, which stays made.
-fn make_in_turn(
-    alloc: Global,
-    board: &mut Board,
-    stages: &[Stage],
-) -> Result<RepairMove, AllocError>
-    requires unspoiled { board.old.spoiled ≡ false }
-    requires some { 0 < length stages.now }
-    requires stages { All (IsStage board.old.state) stages.now }
-    requires same { All (TakesOut (gone_in stages.now)) stages.now }
-    ensures best { IfOk result (λ m. fewest board.old.state (map move_of stages.now) ≡ Some m) }
-    ensures made { IfOk result (λ m. board.new ≡ after (applied board.old.state m)) }
-{
-    let next = board.state().next_id;
-    let progress = try_each(alloc, board, stages, next)?;
-    if progress.place == progress.at {
-        return Ok(progress.best.mv);
+    if is_best {
+        return Ok(Some(Picked::Found(progress.best.mv)));
     }
-    make_instead(board, &stages[progress.at], &stages[progress.place], next)?;
-    Ok(progress.best.mv)
+    Ok(None)
 }
 
-fn pick_by_purpose(
+/// The best of some moves that take out the same activities, if it leaves fewer conflicts than this, if a number is given. Want of
+/// memory spoils the board.
+pub(crate) fn pick_if_below(
     alloc: Global,
     board: &mut Board,
     stages: &[Stage],
+    fewer: Option<usize>,
     purpose: Purpose,
-) -> Result<Picked, AllocError>
+) -> Result<Option<Picked>, AllocError>
     requires unspoiled { board.old.spoiled ≡ false }
     requires some { 0 < length stages.now }
     requires stages { All (IsStage board.old.state) stages.now }
     requires same { All (TakesOut (gone_in stages.now)) stages.now }
-    ensures { IfOk result (λ p. IsPicked purpose (λ m. fewest board.old.state (map move_of stages.now) ≡ Some m) board.old p board.new) }
+    ensures picked { IfOk result (λ p. IsPickedIf purpose (IsFewestBelow board.old.state (map move_of stages.now) fewer) board.old p board.new) }
+    ensures found { IfOk result (λ p. fewer ≡ None → is_some p ≡ true) }
+    ensures err { OnErr result (board.new.spoiled ≡ true) }
 {
-    match purpose {
-        Purpose::Propose => Ok(Picked::Found(best_in_turn(alloc, board, stages)?)),
-        Purpose::Mend => Ok(Picked::Made(make_in_turn(alloc, board, stages)?)),
+    match best_if_below(alloc, board, stages, fewer, purpose) {
+        Ok(picked) => Ok(picked),
+        Err(fault) => {
+            board.spoil();
+            Err(fault)
+        }
     }
 }
 
@@ -188,11 +208,8 @@ pub(crate) fn pick_in_turn(
     ensures picked { IfOk result (λ p. IsPicked purpose (λ m. fewest board.old.state (map move_of stages.now) ≡ Some m) board.old p board.new) }
     ensures err { OnErr result (board.new.spoiled ≡ true) }
 {
-    match pick_by_purpose(alloc, board, stages, purpose) {
-        Ok(picked) => Ok(picked),
-        Err(fault) => {
-            board.spoil();
-            Err(fault)
-        }
+    match pick_if_below(alloc, board, stages, None, purpose)? {
+        Some(picked) => Ok(picked),
+        None => unreachable!(),
     }
 }

@@ -5,6 +5,7 @@ mod aiming;
 mod alone;
 mod best;
 mod bounded;
+mod choice;
 mod draw;
 mod fewest;
 mod hopes;
@@ -23,6 +24,7 @@ mod stages;
 mod stretch;
 mod trial;
 mod tries;
+mod want;
 
 pub use least::Least;
 pub use seeded::Seeded;
