@@ -3,7 +3,7 @@ use Rattle.std.proofs.Common.{◌≡◌, ℕ, ◌+◌, ◌<◌, ◌≤◌, leb, 
 use Rattle.std.specs.Prelude.{All, filter}
 use Rattle.std.proofs.Math.Seq.{take-add}
 use Rattle.std.proofs.lemmas.Bool.{and_parts, leb-true, le-ltb}
-use Rattle.std.proofs.lemmas.List.{map-append, append_assoc, drop-drop, length-drop, take-append-drop}
+use Rattle.std.proofs.lemmas.List.{map-append, drop-drop, length-drop, take-append-drop}
 use Rattle.std.proofs.lemmas.List.Elements.{All-nil, All-head, All-tail, All-weaker, All-append, All-take, All-drop, filter-append}
 use Rattle.pl_model.specs.declared.whole.Model.{Model}
 use Rattle.pl_plan.specs.declared.activity.Activity.{Activity}

@@ -1,5 +1,5 @@
 -- What stands behind a front of a legal log is a step.
-use Rattle.std.proofs.Common.{◌≡◌, ℕ, suc, ◌+◌, ◌<◌, ◌≤◌, List, [], ◌∷◌, ◌++◌, length, true, Option, Some, None, arith, length-append}
+use Rattle.std.proofs.Common.{◌≡◌, suc, ◌+◌, ◌<◌, ◌≤◌, List, [], ◌∷◌, ◌++◌, length, true, Option, Some, None, arith, length-append}
 use Rattle.std.specs.Prelude.{unwrap_or}
 use Rattle.pl_model.specs.declared.whole.Model.{Model}
 use Rattle.pl_facts.specs.declared.options.Options.{Options}

@@ -1,7 +1,7 @@
 -- The activities that have started and are committed: what changes leave of what is known of them.
-use Rattle.std.proofs.Common.{◌≡◌, ℕ, suc, ◌+◌, ◌<◌, ◌≤◌, eqb, leb, ltb, Bool, true, false, ◌&&◌, List, [], ◌∷◌, ◌++◌, map, get_or, Some, None, Option, ◌⊎◌, inl, inr, refl, sym, ◌∙◌, subst, arith}
-use Rattle.std.specs.Prelude.{ℤ, All, filter, not, ◌||◌, slice_get, if◌then◌else◌, min}
-use Rattle.std.proofs.lemmas.Bool.{and_parts, and_from, leb-true, le-leb, ltb-true, lt-ltb, not_from_false, or_right}
+use Rattle.std.proofs.Common.{◌≡◌, ℕ, suc, ◌+◌, ◌≤◌, eqb, leb, ltb, Bool, true, false, ◌&&◌, List, [], ◌∷◌, map, get_or, Some, None, Option, inl, inr, refl, sym, ◌∙◌, subst, arith}
+use Rattle.std.specs.Prelude.{All, filter, not, ◌||◌, slice_get, if◌then◌else◌, min}
+use Rattle.std.proofs.lemmas.Bool.{and_parts, and_from, leb-true, le-leb, ltb-true, lt-ltb}
 use Rattle.std.proofs.lemmas.List.Elements.{All-nil, All-cons, All-weaker, All-append, All-filter, All-map}
 use Rattle.pl_model.specs.declared.alternatives.Slot.{Slot}
 use Rattle.pl_model.specs.declared.alternatives.Alternative.{Alternative}
@@ -10,7 +10,6 @@ use Rattle.pl_plan.specs.declared.repair.RepairMove.{RepairMove}
 use Rattle.pl_plan.specs.declared.repair.RepairMove.TheVariants.{Add, Delete, Shift, Detail, Abstract, Assign, Drop}
 use Rattle.pl_plan.specs.Activities.{ended}
 use Rattle.pl_plan.specs.Fitting.{FitsAlone}
-use Rattle.pl_plan.specs.Moves.{abstracted}
 use Rattle.pl_plan.specs.Trees.{descends}
 use Rattle.pl_plan.proofs.Climbs.{all_at}
 use Rattle.pl_semantics.specs.declared.plan_state.PlanState.{PlanState}

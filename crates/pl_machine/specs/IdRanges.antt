@@ -1,5 +1,5 @@
 -- Ranges of ids for the activities that are not settled.
-use Rattle.std.specs.Prelude.{ℕ, ◌+◌, nat_lt, Bool, true, false, List, [], ◌∷◌, ◌++◌, if◌then◌else◌}
+use Rattle.std.specs.Prelude.{ℕ, ◌+◌, nat_lt, Bool, List, [], ◌∷◌, ◌++◌, if◌then◌else◌}
 use Rattle.pl_plan.specs.declared.activity.Activity.{Activity}
 use Rattle.pl_machine.specs.declared.id_range.IdRange.{IdRange}
 use Rattle.pl_machine.specs.Calm.{is_settled}

@@ -1,4 +1,4 @@
-use Rattle.std.proofs.Common.{◌≡◌, sym, ◌∙◌}
+use Rattle.std.proofs.Common.{sym, ◌∙◌}
 use Rattle.pl_machine.proofs.InOrder.{next_starts}
 use Rattle.pl_machine.proofs.sorting.set_of.Goals as goal
 

@@ -1,4 +1,4 @@
-use Rattle.std.proofs.Common.{◌≡◌, ◌+◌, ◌++◌, List, drop, slice_get, Some, sym, ◌∙◌, ap, subst, [], append-nil}
+use Rattle.std.proofs.Common.{◌≡◌, ◌+◌, ◌++◌, List, drop, slice_get, Some, sym, ◌∙◌, ap, subst}
 use Rattle.std.proofs.lemmas.Option.{slice_get-get_or}
 use Rattle.std.proofs.lemmas.List.{append_assoc, drop_all}
 use Rattle.pl_plan.specs.declared.activity.Activity.{Activity}

@@ -1,7 +1,7 @@
 use Rattle.std.proofs.Common.{◌≤◌, sym, subst}
 use Rattle.std.specs.Prelude.{All}
 use Rattle.pl_plan.specs.declared.activity.Activity.{Activity}
-use Rattle.pl_plan.specs.Activities.{RiseFrom, AreRising}
+use Rattle.pl_plan.specs.Activities.{AreRising}
 use Rattle.pl_machine.proofs.Places.{rising_drop, rising_behind, rising_from}
 use Rattle.pl_machine.proofs.Looking.{HasSeen, seen_all}
 use Rattle.pl_machine.proofs.found.Found.look.Goals as goal

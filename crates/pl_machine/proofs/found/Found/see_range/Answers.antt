@@ -1,10 +1,9 @@
-use Rattle.std.proofs.Common.{◌≡◌, ℕ, ◌+◌, ◌++◌, List, take, drop, ◌∙◌, sym, ap, subst}
+use Rattle.std.proofs.Common.{◌≡◌, ◌+◌, ◌++◌, List, take, drop, ◌∙◌, sym, ap, subst}
 use Rattle.std.specs.Prelude.{All, ◌≤◌}
 use Rattle.std.proofs.lemmas.List.{drop-drop}
 use Rattle.std.proofs.lemmas.List.Elements.{All-take}
 use Rattle.pl_plan.specs.declared.activity.Activity.{Activity}
 use Rattle.pl_plan.specs.Activities.{RiseFrom, AreRising}
-use Rattle.pl_machine.specs.declared.id_range.IdRange.{IdRange}
 use Rattle.pl_machine.specs.Calm.{next_start}
 use Rattle.pl_machine.specs.Looking.{starts_in, AreBelow, AddsRanges}
 use Rattle.pl_machine.proofs.Places.{rising_drop, rising_behind, rising_take, rising_from}

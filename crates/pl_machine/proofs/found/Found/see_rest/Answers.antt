@@ -1,5 +1,4 @@
-use Rattle.std.proofs.Common.{◌≡◌, true, List, [], ◌⊎◌, inl, inr, ◌≤◌, sym, append-nil, arith}
-use Rattle.std.specs.Prelude.{All}
+use Rattle.std.proofs.Common.{◌≡◌, true, [], ◌⊎◌, inl, inr, ◌≤◌, sym, append-nil, arith}
 use Rattle.std.proofs.lemmas.List.Elements.{All-weaker}
 use Rattle.pl_plan.specs.declared.activity.Activity.{Activity}
 use Rattle.pl_machine.specs.Calm.{is_settled, IsKnown}

@@ -1,4 +1,4 @@
-use Rattle.std.proofs.Common.{◌≡◌, [], ◌++◌, List, ℕ, map, ◌∙◌, ap, subst}
+use Rattle.std.proofs.Common.{[], ◌++◌, List, ℕ, map, ◌∙◌, ap, subst}
 use Rattle.pl_model.specs.declared.whole.Model.{Model}
 use Rattle.pl_plan.specs.declared.activity.Activity.{Activity}
 use Rattle.pl_entry.specs.Due.{with_starts}
