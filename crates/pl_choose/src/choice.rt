@@ -15,7 +15,7 @@ use crate::purpose::Purpose;
 use crate::stages::{Stage, stages_of, take_out};
 use crate::want::or_spoil;
 use pl_board::Board;
-use pl_bounds::least_of_each;
+use pl_bounds::least_of_choices;
 use pl_plan::RepairMove;
 use std::alloc::{AllocError, Global};
 
@@ -97,7 +97,7 @@ pub(crate) fn pick_of_hopeful(
     let Some(any) = moves.first() else {
         return Ok(None);
     };
-    let told = least_of_each(alloc, board, moves);
+    let told = least_of_choices(alloc, board, moves);
     let bounds = or_spoil(board, told)?;
     let best = Best {
         mv: *any,
