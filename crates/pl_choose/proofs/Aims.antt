@@ -13,6 +13,7 @@ use Rattle.pl_choose.specs.declared.picked.Picked.TheVariants.{Made, Found}
 use Rattle.pl_choose.specs.declared.purpose.Purpose.{Purpose}
 use Rattle.pl_choose.specs.declared.purpose.Purpose.TheVariants.{Propose, Mend}
 use Rattle.pl_choose.specs.Alone.{AreEnough}
+use Rattle.pl_choose.specs.Choice.{IsPickedIf}
 use Rattle.pl_choose.specs.Picked.{IsPicked, enough_for}
 use Rattle.pl_choose.specs.Picks.{fewest}
 use Rattle.pl_choose.specs.Tried.{better_of, best_of}
@@ -33,6 +34,11 @@ few_enough Mend most left few = few
 pub picked_as : (purpose : Purpose) (P Q : RepairMove → Type 0) (before : Standing) (p : Picked) (now : Standing) → ((m : RepairMove) → P m → Q m) → IsPicked purpose P before p now → IsPicked purpose Q before p now
 picked_as why P Q before (Made m) now so picked = (picked.0, so m picked.1, picked.2)
 picked_as why P Q before (Found m) now so picked = (so m picked.0, picked.1)
+
+-- the same where nothing may be picked
+pub picked_if : (purpose : Purpose) (P Q : RepairMove → Type 0) (before : Standing) (p : Option Picked) (now : Standing) → ((m : RepairMove) → P m → Q m) → IsPickedIf purpose P before p now → IsPickedIf purpose Q before p now
+picked_if why P Q before None now so same = same
+picked_if why P Q before (Some p) now so picked = picked_as why P Q before p now so picked
 
 -- ---- an aim that leaves no more than is known of the others
 

@@ -5,7 +5,10 @@ use pl_board::Board;
 use std::alloc::AllocError;
 
 /// What was worked out over a board. Want of memory spoils the board.
-pub(crate) fn or_spoil<T>(board: &mut Board, outcome: Result<T, AllocError>) -> Result<T, AllocError>
+pub(crate) fn or_spoil<T>(
+    board: &mut Board,
+    outcome: Result<T, AllocError>,
+) -> Result<T, AllocError>
     ensures is { result ≡ outcome }
     ensures same { OnOk result (board.new ≡ board.old) }
     ensures err { OnErr result (board.new.spoiled ≡ true) }

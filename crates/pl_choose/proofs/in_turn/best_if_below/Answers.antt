@@ -58,9 +58,9 @@ returns-then-stays_made-clause-picked c =
     let progress = c.in_ok-progress.progress in
     let below : is_below c.args.fewer (left_after s progress.best.mv) ≡ true = ap (is_below c.args.fewer) (sym c.in_ok-progress.ensures.left) ∙ (sym c.is_below-is_best.ensures ∙ c.stays_made.ensures.best c.if-stays_made.true) in
     let made : c.if-progress.board ≡ after (applied s progress.best.mv) = elim c.if-progress.branch [
-        then-progress+in_ok-make_instead w ↦ w.board-is ∙ makes_best s whole c.args.stages.now _ c.requires.stages c.requires.same progress c.try_each.new.board c.in_ok-progress.ensures c.index-stages-progress.result c.index-stages-progress.is w.index-stages-progress-then-progress.result w.index-stages-progress-then-progress.is w.make_instead.new.board (rw c.state.ensures.value at w.in_ok-make_instead.ensures)
+      | then-progress+in_ok-make_instead w ↦ w.board-is ∙ makes_best s whole c.args.stages.now _ c.requires.stages c.requires.same progress c.try_each.new.board c.in_ok-progress.ensures c.index-stages-progress.result c.index-stages-progress.is w.index-stages-progress-then-progress.result w.index-stages-progress-then-progress.is w.make_instead.new.board (rw c.state.ensures.value at w.in_ok-make_instead.ensures)
       | else-progress w ↦ w.board-is ∙ stands_best s whole c.args.stages.now _ c.requires.stages c.requires.same progress c.try_each.new.board c.in_ok-progress.ensures w.if-progress.false
-      ] in
+    ] in
     (c.stays_made.ensures.mends c.if-stays_made.true, (c.in_ok-progress.ensures.best, below), made)
 
 pub returns-then-is_best-clause-picked : goal.returns-then-is_best-clause-picked
@@ -68,10 +68,10 @@ returns-then-is_best-clause-picked c =
     let s = c.args.board.now.state in
     let below : is_below c.args.fewer (left_after s c.in_ok-progress.progress.best.mv) ≡ true = ap (is_below c.args.fewer) (sym c.in_ok-progress.ensures.left) ∙ (sym c.is_below-is_best.ensures ∙ c.if-is_best.true) in
     let same : c.reset_next.new.self ≡ c.args.board.now =
-        let whole : IsWhole c.args.board.now.state = rw c.state.ensures.value at (c.state.ensures.whole c.requires.unspoiled) in
-        let undone = undone_by c.args.board.now.state whole c.args.stages.now _ c.requires.stages c.requires.same c.in_ok-progress.progress c.try_each.new.board c.in_ok-progress.ensures c.index-stages-progress.result c.index-stages-progress.is in
-        let made = made_by c.args.board.now.state whole c.args.stages.now _ c.requires.stages c.requires.same c.in_ok-progress.progress c.try_each.new.board c.in_ok-progress.ensures c.index-stages-progress.result c.index-stages-progress.is in
-        home c.args.board.now _ _ _ _ _ undone c.try_each.new.board made c.make_change.new.board c.in_ok-make_change.ensures.ok c.requires.unspoiled _ (ap (λ s. s.next_id) c.state.ensures.value) _ c.reset_next.ensures in
+    let whole : IsWhole c.args.board.now.state = rw c.state.ensures.value at (c.state.ensures.whole c.requires.unspoiled) in
+    let undone = undone_by c.args.board.now.state whole c.args.stages.now _ c.requires.stages c.requires.same c.in_ok-progress.progress c.try_each.new.board c.in_ok-progress.ensures c.index-stages-progress.result c.index-stages-progress.is in
+    let made = made_by c.args.board.now.state whole c.args.stages.now _ c.requires.stages c.requires.same c.in_ok-progress.progress c.try_each.new.board c.in_ok-progress.ensures c.index-stages-progress.result c.index-stages-progress.is in
+    home c.args.board.now _ _ _ _ _ undone c.try_each.new.board made c.make_change.new.board c.in_ok-make_change.ensures.ok c.requires.unspoiled _ (ap (λ s. s.next_id) c.state.ensures.value) _ c.reset_next.ensures in
     ((c.in_ok-progress.ensures.best, below), same)
 
 pub returns-clause-picked : goal.returns-clause-picked
