@@ -48,7 +48,7 @@ fn measure(
     })
 }
 
-// Says how many activities stand, and how much is wrong, which is as much as before the shifts or not.
+// Prints how many activities there are, how many conflicts, and whether these are as many as before the shifts.
 fn tell_state(rt: &impl Print, board: &Board, before: u32) -> Result<()> {
     let (live, after) = (board.plan().len(), board.conflicts().len());
     let word = if before == after { "as" } else { "NOT as" };

@@ -48,7 +48,7 @@ least_sum ps = least_along (first_delta ps) (pos 0) ps
 abbrev pub greatest_sum : List Point → ℤ
 greatest_sum ps = greatest_along (first_delta ps) (pos 0) ps
 
--- of points the first ones, so many and at least one: their sum, and the least and greatest sum of their fronts
+-- of the first `count` points, at least one: their sum, and the least and greatest sum of their fronts
 pub record AreSums (ps : List Point) (count : ℕ) (sum least greatest : ℤ) : Type 0 where
   pub one : 0 < count
   pub bound : count ≤ length ps
@@ -56,7 +56,7 @@ pub record AreSums (ps : List Point) (count : ℕ) (sum least greatest : ℤ) : 
   pub lowest : least ≡ least_sum (take count ps)
   pub highest : greatest ≡ greatest_sum (take count ps)
 
--- a block of 1 to 64 points, with its last moment, its sum and the least and greatest sum of its fronts, and with these of its first `count` points
+-- a block of 1 to 64 points, with its last moment, its sum and the least and greatest sum of its fronts, and with the three sums of its first `count` points
 pub record IsBlock (ps : List Point) (last : ℕ) (sum least greatest : ℤ) (count : ℕ) (sum' least' greatest' : ℤ) : Type 0 where
   pub some : 0 < length ps
   pub few : length ps ≤ 64

@@ -12,8 +12,8 @@ use pl_points::{Ledger, Steps, leaving, merge};
 use std::alloc::{AllocError, Global};
 use std::marker::Model;
 
-/// From 1 to 64 points, with their summary, and with that of the first of them: where only later
-/// points change, the new summary begins there.
+/// From 1 to 64 points, with their summary, and with the sums of the first of them: after a change
+/// behind these, the new summary is worked out from there on.
 #[derive(Drop)]
 pub(crate) struct Block {
     points: Vec<(u32, i64)>,

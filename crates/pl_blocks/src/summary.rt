@@ -4,8 +4,8 @@ ghost use Rattle.pl_blocks.specs.Blocks.{is_past, change_of, least_sum, greatest
 
 use pl_points::{Ledger, Steps};
 
-// The early points end so many points before a change, since the next change is often a little
-// before it.
+// After a change the kept sums go on to so many points before it, since the next change often comes
+// a little before this one.
 const NEAR: usize = 2;
 
 /// What searches ask of points: the last moment, their sum and the least and greatest sum of their fronts.
@@ -27,7 +27,7 @@ pub(crate) struct Sums {
     pub(crate) greatest: i64,
 }
 
-/// Of the first point alone.
+/// The sums of the first point alone.
 pub(crate) fn sums_of_first(points: &[(u32, i64)]) -> Sums
     requires { 0 < length points.now }
     ensures { AreSums points.now result.count result.sum result.least result.greatest }
@@ -41,7 +41,7 @@ pub(crate) fn sums_of_first(points: &[(u32, i64)]) -> Sums
     }
 }
 
-// Of one point more.
+// The sums of one point more.
 fn sums_of_next(points: &[(u32, i64)], sums: Sums) -> Sums
     requires there { sums.count < length points.now }
     requires sums { AreSums points.now sums.count sums.sum sums.least sums.greatest }
@@ -58,7 +58,7 @@ fn sums_of_next(points: &[(u32, i64)], sums: Sums) -> Sums
     }
 }
 
-/// The sums, where they are still those of the first points, and else those of the first alone.
+/// These sums, if they are still those of the first points, and else those of the first point alone.
 pub(crate) fn kept_or_first(points: &[(u32, i64)], sums: Sums, keeps: bool) -> Sums
     requires some { 0 < length points.now }
     requires sums { keeps ≡ true → AreSums points.now sums.count sums.sum sums.least sums.greatest }
@@ -70,7 +70,7 @@ pub(crate) fn kept_or_first(points: &[(u32, i64)], sums: Sums, keeps: bool) -> S
     sums_of_first(points)
 }
 
-/// Whether the first points, so many of them, all lie before the moment.
+/// Whether the first `count` points all lie before the moment.
 pub(crate) fn lie_before(points: &[(u32, i64)], count: usize, at: u32) -> bool
     requires some { 0 < count }
     requires bound { count ≤ length points.now }
@@ -80,7 +80,8 @@ pub(crate) fn lie_before(points: &[(u32, i64)], count: usize, at: u32) -> bool
     points[count - 1].0 < at
 }
 
-/// Of these points and those behind them, up to a few before the moment: a step for each more.
+/// The sums of these first points and of those behind them, up to a few before the moment: a step
+/// for each point more.
 pub(crate) fn sums_up_to<L: Ledger>(
     points: &[(u32, i64)],
     early: Sums,
@@ -101,7 +102,8 @@ pub(crate) fn sums_up_to<L: Ledger>(
     sums
 }
 
-/// The summary of all points, from the sums of the first of them: a step for each that is behind these.
+/// The summary of all points, worked out from the sums of the first of them: a step for each point
+/// behind these.
 pub(crate) fn summary_of<L: Ledger>(
     points: &[(u32, i64)],
     early: Sums,

@@ -13,7 +13,7 @@ use std::marker::Model;
 #[derive(Drop)]
 pub struct Goals {
     goals: Vec<Goal>,
-    // The place of each goal by its number, from the greatest down: a map is searched from its front, and most look-ups are for new goals.
+    // The place of each goal by its number, the greatest number first: each node of a map is searched from its first key on, and most look-ups are for new goals.
     places: BTreeMap<Reverse<u32>, usize>,
 }
 

@@ -34,7 +34,7 @@ abbrev pub AreRanges : ℕ → List IdRange → ℕ → Type 0
 AreRanges from [] to = from ≤ to
 AreRanges from (r ∷ more) to = (from ≤ r.from) × (r.from ≤ r.to) × AreRanges r.to more to
 
--- an activity is settled, or it is one of those behind what was seen, or its id is in an open range
+-- an activity is settled, or its id is not below what was seen, or its id is in one of the ranges
 abbrev pub IsKnown : ℕ → ℕ → ℕ → List IdRange → Activity → Type 0
 IsKnown moment c seen ranges a = (is_settled moment c a ≡ true) ⊎ ((seen ≤ a.id) ⊎ IsIn ranges a.id)
 

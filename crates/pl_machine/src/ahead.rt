@@ -3,6 +3,6 @@
 pub(crate) struct Ahead {
     /// No activity starts after the present and before this moment.
     pub(crate) next_start: u32,
-    /// An activity of a lower id is settled, unless its id is in one of the open ranges.
+    /// An activity whose id is lower is settled, unless its id is in one of the schedule's ranges.
     pub(crate) seen: u32,
 }

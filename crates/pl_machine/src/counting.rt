@@ -12,7 +12,7 @@ fn count_all_below(activities: &[Activity], id: u32) -> usize
     activities.partition_point(|activity| activity.id < id)
 }
 
-/// How many of the activities have lower ids. Mostly the first one has none.
+/// How many of the activities have lower ids. Mostly none has, and a look at the first one shows it.
 pub(crate) fn count_below(activities: &[Activity], id: u32) -> usize
     requires { AreRising activities.now }
     ensures { AreBelow id result activities.now }
@@ -23,7 +23,7 @@ pub(crate) fn count_below(activities: &[Activity], id: u32) -> usize
     }
 }
 
-/// The same, where few have.
+/// The same, for where few have.
 pub(crate) fn count_few_below(activities: &[Activity], id: u32) -> usize
     requires { AreRising activities.now }
     ensures { AreBelow id result activities.now }

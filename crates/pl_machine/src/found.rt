@@ -14,7 +14,7 @@ use pl_model::Model;
 use pl_plan::Activity;
 use std::alloc::{AllocError, Global};
 
-// So many activities behind what was seen are gone through one by one. Of more, ranges are made.
+// If no more activities than this are behind what was seen, no ranges are made of them.
 const FEW: usize = 48;
 
 /// What was found at the activities that were looked at, by rising id.
@@ -72,7 +72,7 @@ impl Found {
         }
     }
 
-    /// Nothing was looked at yet.
+    /// Forgets what the last look found.
     fn clear(&mut self)
         ensures starts { self.new.starts.items ≡ [] }
         ensures ranges { self.new.ranges.items ≡ [] }
@@ -133,7 +133,7 @@ impl Found {
         Ok(place)
     }
 
-    /// Looks at the activities behind what was seen, and answers what is seen now.
+    /// Looks at the activities behind what was seen, and answers the id up to which all are seen now.
     fn see_rest(
         &mut self,
         model: &Model,
@@ -158,7 +158,7 @@ impl Found {
         Ok(next_id)
     }
 
-    /// Looks at the activities that may not be settled, and answers what is seen now.
+    /// Looks at the activities that may not be settled, and answers the id up to which all are seen now.
     pub(crate) fn look(
         &mut self,
         model: &Model,

@@ -1,4 +1,4 @@
-/// The ids from one on, up to another one that is not among them.
+/// The ids from `from` on that are below `to`.
 #[derive(Clone, Copy, PartialEq, Eq)]
 pub(crate) struct IdRange {
     pub(crate) from: u32,

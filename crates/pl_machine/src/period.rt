@@ -1,4 +1,4 @@
-/// The time that has passed since an earlier moment. What starts before `committed` is committed.
+/// The time from the moment `before` to the present `moment`. What starts before `committed` is committed.
 #[derive(Clone, Copy, PartialEq, Eq)]
 pub(crate) struct Period {
     pub(crate) before: u32,

@@ -20,7 +20,7 @@ pub(crate) struct Schedule {
     pub(crate) ahead: Ahead,
     /// The ids of activities that were seen and may not be settled.
     pub(crate) ranges: Vec<IdRange>,
-    /// What the last look found. It is kept for its room.
+    /// What the last look found. It is kept so that the next look need not take its memory anew.
     pub(crate) found: Found,
 }
 

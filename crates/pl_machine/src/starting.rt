@@ -21,12 +21,14 @@ pub(crate) fn nearer(moment: u32, next: u32, start: u32) -> u32
     }
 }
 
+/// Whether the activity has started by the end of the period and is committed.
 pub(crate) fn is_settled(period: Period, activity: &Activity) -> bool
     ensures { result ≡ is_settled period.moment period.committed activity.now }
 {
     activity.start <= period.moment && activity.start < period.committed
 }
 
+// Whether the activity's kind has no alternatives.
 fn is_basic(model: &Model, activity: &Activity) -> bool
     requires { activity.now.kind < length model.now.kinds }
     ensures { result ≡ (length (alternatives_of (kind_of model.now activity.now)) == 0) }

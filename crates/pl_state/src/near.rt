@@ -63,7 +63,7 @@ fn mend_steps(
     ensures went { IfOk result (λ d. d.went ≡ left_out same_bad bad.new.items bad.old.items) }
     ensures came { IfOk result (λ d. d.came ≡ left_out same_bad bad.old.items bad.new.items) }
 {
-    // Where any step is allowed, none comes to be told.
+    // If any step is allowed and none is listed as not allowed, there is none to be listed.
     if any && bad.is_empty() {
         return Ok(no_steps(alloc));
     }

@@ -46,7 +46,7 @@ fn covered_count<T: Keyed>(rows: &[Row<T>], bound: Bound) -> usize
     rows.partition_point(|row| row.is_covered(bound))
 }
 
-// How many of them lie within the bound, if one of the first few does not.
+// How many items come before the first that lies outside the bound, if that is one of the first few.
 fn few_covered<T: Keyed>(items: &[T], bound: Bound) -> Option<usize>
     ensures { IfSome result (λ n. EndsAt (is_covered T.key bound) items.now n) }
 {
@@ -187,7 +187,8 @@ impl<T: Keyed> Rows<T> {
         }
     }
 
-    // How many of the items from the place on lie within the bound, if a look at a few shows it.
+    // How many items from the place on come before the first that lies outside the bound, if a look
+    // at a few of its row shows it.
     fn few_from(&self, from: usize, bound: Bound) -> Option<usize>
         ensures { IfSome result (λ n. EndsAt (is_covered T.key bound) (drop from self.now) n) }
     {
@@ -197,7 +198,7 @@ impl<T: Keyed> Rows<T> {
         }
     }
 
-    // The items from the place on that stand in its row, if it has one.
+    // The items of one row from the place on, if an item stands there.
     fn row_from(&self, from: usize) -> Option<&[T]>
         ensures { IfSome result (λ v. v.now ≡ take (length v.now) (drop from self.now)) }
     {

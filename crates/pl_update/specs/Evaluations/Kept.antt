@@ -15,7 +15,7 @@ use Rattle.pl_semantics.specs.declared.plan_state.PlanState.{PlanState}
 use Rattle.pl_semantics.specs.Whole.{IsWhole}
 use Rattle.pl_update.specs.Changes.Replaced.{CanReplace, with_plan}
 
--- entries, each an id with what is kept under it, from the greatest id down
+-- entries, each an id with what is kept under it; the ids are keys in reverse order
 abbrev pub Entries : Type 0
 Entries = List (Reverse ℕ × Evaluated)
 

@@ -71,7 +71,7 @@ pub(crate) struct Renewal<'a> {
     rest: &'a [Activity],
 }
 
-// The activities that come again, where those that go are just the first of those that come.
+/// The activities that come again, and the others that come, if the ids that go are the first of those that come, in the same order.
 pub(crate) fn come_again<'a>(gone: &[u32], placed: &'a [Activity]) -> Option<Renewal<'a>>
     ensures { IfSome result (λ r. ComeAgain gone.now placed.now r.first.now r.rest.now) }
 {

@@ -13,7 +13,7 @@ use std::collections::BTreeMap;
 /// What activities come to, by their ids.
 #[derive(Drop)]
 pub struct Evaluations {
-    // The greatest id comes first: a map is searched from its front, and most look-ups are for new activities.
+    // The greatest id comes first: each node of a map is searched from its first key on, and most look-ups are for new activities.
     by_id: BTreeMap<Reverse<u32>, Evaluated>,
 }
 

@@ -21,7 +21,7 @@ impl Evaluations {
         }
     }
 
-    // Keeps nothing under those that go. Where they come again, what is kept under them is replaced as they come.
+    // Takes out what is kept under the ids that go. If these come again, it may stay: it is replaced when they come.
     fn forget_gone(&mut self, gone: &[u32], placed: &[Activity])
         ensures { (q : ℕ) → among q (map id_of placed.now) ≡ false → kept_at q self.new ≡ (if among q gone.now then None else kept_at q self.old) }
     {

@@ -28,7 +28,7 @@ pub(crate) struct Exchange {
 }
 
 impl Exchange {
-    /// Takes out of the set what went, and puts in what came. Mostly there is nothing of either.
+    /// Takes out of the set what went, and puts in what came. Mostly there is nothing to take out or put in.
     pub(crate) fn apply_to(&self, set: &mut ConflictSet) -> Result<(), AllocError>
         ensures members { OnOk result ((q : Conflict) → has q set.new ≡ ((has q set.old && not (has q self.now.went.items)) || has q self.now.came.items)) }
         ensures sorted { OnOk result (AreInOrder set.old → AreInOrder set.new) }
