@@ -65,17 +65,21 @@ only_listed t m (x ∷ xs) has = cases (holds_at t x.must) refl has (only_listed
     cases false e h more = behind (more h)
 
 -- none that holds starts later, or so early that the longest one would have ended
+found_only : (t n : ℕ) (xs : List Started) (m : Must) → Has m (holding_at t (front (is_covered start_key (By t)) (back (is_before start_key (key_of (t - n) 0 0)) xs))) → Has (started m) xs × (holds_at t m ≡ true)
+found_only t n xs m has =
+    let rest : List Started = back (is_before start_key (key_of (t - n) 0 0)) xs in
+    let listed = only_listed t m (front (is_covered start_key (By t)) rest) has in
+    (has_back (is_before start_key (key_of (t - n) 0 0)) (started m) xs (has_front (is_covered start_key (By t)) (started m) rest listed.0), listed.1)
+
+found_each : (t n : ℕ) (xs : List Started) (m : Must) → IsIndex n xs → Has (started m) xs → holds_at t m ≡ true → Has m (holding_at t (front (is_covered start_key (By t)) (back (is_before start_key (key_of (t - n) 0 0)) xs)))
+found_each t n xs m index has e =
+    let rest : List Started = back (is_before start_key (key_of (t - n) 0 0)) xs in
+    let parts = and_parts (leb m.from t) (ltb t m.to) e in
+    let low : t - n ≤ m.from = omega (arith, index.short (started m) has, ltb-true t m.to parts.1) in
+    each_listed t m (front (is_covered start_key (By t)) rest) e
+    (has_ahead (is_covered start_key (By t)) (started m) rest (parted_covered start_key (By t) rest (sorted_back start_key (is_before start_key (key_of (t - n) 0 0)) xs index.sorted)) parts.0
+    (has_behind (is_before start_key (key_of (t - n) 0 0)) (started m) xs (not_before_moment (started m) (t - n) low) has))
+
 pub found_here : (t n : ℕ) (xs : List Started) (m : Must) → IsIndex n xs
     → Has m (holding_at t (front (is_covered start_key (By t)) (back (is_before start_key (key_of (t - n) 0 0)) xs))) ↔ (Has (started m) xs × (holds_at t m ≡ true))
-found_here t n xs m index = (
-  λ has. let listed = only_listed t m (front (is_covered start_key (By t)) rest) has in (has_back (is_before start_key (key_of (t - n) 0 0)) (started m) xs (has_front (is_covered start_key (By t)) (started m) rest listed.0), listed.1),
-  λ both.
-      let parts = and_parts (leb m.from t) (ltb t m.to) both.1 in
-      let low : t - n ≤ m.from = omega (arith, index.short (started m) both.0, ltb-true t m.to parts.1) in
-      each_listed t m (front (is_covered start_key (By t)) rest) both.1
-      (has_ahead (is_covered start_key (By t)) (started m) rest (parted_covered start_key (By t) rest (sorted_back start_key (is_before start_key (key_of (t - n) 0 0)) xs index.sorted)) parts.0
-      (has_behind (is_before start_key (key_of (t - n) 0 0)) (started m) xs (not_before_moment (started m) (t - n) low) both.0)),
-)
-  where
-    rest : List Started
-    rest = back (is_before start_key (key_of (t - n) 0 0)) xs
+found_here t n xs m index = (found_only t n xs m, λ both. found_each t n xs m index both.0 both.1)
