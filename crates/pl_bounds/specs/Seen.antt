@@ -1,5 +1,5 @@
 -- The state of a timeline at a moment ahead, and what is known of states once a replacement is made.
-use Rattle.std.specs.Prelude.{◌≡◌, ◌≢◌, ℕ, ◌≤◌, ◌<◌, Bool, true, false, List, Option, Some, slice_get}
+use Rattle.std.specs.Prelude.{◌≡◌, ◌≢◌, ℕ, ◌≤◌, ◌<◌, Bool, true, false, List, Option, slice_get}
 use Rattle.pl_detect.specs.Based.{IsStateLine}
 use Rattle.pl_model.specs.declared.timelines.Timeline.{Timeline}
 use Rattle.pl_plan.specs.declared.activity.Activity.{Activity}

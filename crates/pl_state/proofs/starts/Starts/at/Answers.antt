@@ -1,4 +1,4 @@
-use Rattle.std.proofs.Common.{◌≡◌, ◌-◌, take, drop, ap, sym, ◌∙◌, subst, List}
+use Rattle.std.proofs.Common.{◌≡◌, ◌-◌, drop, ap, sym, ◌∙◌, subst, List}
 use Rattle.std.specs.Prelude.{◌↔◌, true}
 use Rattle.pl_lists.specs.Lists.{front, back}
 use Rattle.pl_state.specs.declared.bound.Bound.TheVariants.{By}
