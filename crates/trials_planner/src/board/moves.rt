@@ -1,11 +1,14 @@
 //! What is asked of moves: whether they are refused, which are tried, and what they leave.
+ghost use Rattle.std.specs.Prelude.{All, IfSome};
+ghost use Rattle.pl_moves.specs.Runs.{CanBeMade};
+
 use crate::asserting::is_printed;
 use crate::board::changes::{can_make, can_move};
 use crate::board::reading::{conflict, repair};
 use crate::board::values::are_conflicts;
 use crate::reading::{sides, word};
 use pl_board::Board;
-use pl_bounds::least_of_each;
+use pl_bounds::{least_of_choices, least_of_each};
 use pl_cand::candidates;
 use pl_moves::{attempt, is_legal, legal, make};
 use pl_plan::RepairMove;
@@ -56,6 +59,32 @@ pub fn is_known_to_leave(alloc: Global, board: &Board, row: &str) -> Option<bool
         return None;
     }
     let found = least_of_each(alloc, board, &[mv]).ok()?;
+    is_printed(format!(in alloc; "{found:?}"), wanted)
+}
+
+/// The moves of a text, if each is legal.
+fn legal_moves(alloc: Global, board: &Board, text: &str) -> Option<Vec<RepairMove>>
+    ensures { IfSome result (λ moves. All (CanBeMade board.now.state) moves.items) }
+{
+    let mut moves = Vec::new(alloc);
+    'lines: for line in text.split(';') {
+        let mv = repair(line);
+        if !can_make(board, &mv) {
+            return None;
+        }
+        moves.push(mv).ok()?;
+    }
+    Some(moves)
+}
+
+/// Whether legal moves are known as choices of alternatives to leave so many conflicts at least.
+pub fn are_known_to_leave(alloc: Global, board: &Board, row: &str) -> Option<bool> {
+    let (lines, wanted) = sides(row);
+    let moves = legal_moves(alloc, board, lines)?;
+    if board.spoiled() || board.next_id() > 3_999_999_000 {
+        return None;
+    }
+    let found = least_of_choices(alloc, board, moves.as_slice()).ok()?;
     is_printed(format!(in alloc; "{found:?}"), wanted)
 }
 
