@@ -93,7 +93,7 @@ fn mark_all(
     ensures { OnOk result (AreMarksThen board.now.state asking.now marks.old.items → AreMarksThen board.now.state asking.now marks.new.items) }
 {
     let musts = board.musts_at(line, set.at)?;
-    for must in &musts {
+    for must in musts.as_slice() {
         mark_must(board, asking, line, set, must, marks)?;
     }
     Ok(())
