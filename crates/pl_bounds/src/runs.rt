@@ -26,8 +26,8 @@ pub(crate) struct Run {
     pub(crate) additions: Vec<Addition>,
 }
 
-// Looks further at the limits for what the move asks for. Of an addition these are also the limits that what comes may pass; for the many
-// shifts of a choice that would cost more than it saves, and of them only what goes is asked.
+// Has the limits looked at more closely, for what the move changes. An addition adds the limits that it may pass; for the many shifts of a
+// choice that would cost more than it saves. For any other move only the effects that go are looked at.
 fn widen_for(
     alloc: Global,
     board: &Board,

@@ -77,8 +77,7 @@ pub(crate) fn widen(
     Ok(())
 }
 
-// Looks also where a level stays past its limit once a demand is gone. What goes brings it nearer to the other limit, so it stays past this
-// one only where it is past it by more than the amount that goes.
+// Looks also where a level stays past its limit once a demand is gone: where it is past the limit by more than the demand's amount.
 fn look_without(
     alloc: Global,
     board: &Board,
