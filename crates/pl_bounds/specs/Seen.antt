@@ -1,8 +1,6 @@
 -- The state of a timeline at a moment ahead, and what is known of states once a replacement is made.
-use Rattle.std.specs.Prelude.{◌≡◌, ◌≢◌, ℕ, ◌≤◌, ◌<◌, Bool, true, false, List, Option, Some, slice_get}
-use Rattle.std.specs.Option.{option_map}
+use Rattle.std.specs.Prelude.{◌≡◌, ◌≢◌, ℕ, ◌≤◌, ◌<◌, Bool, true, false, List, Option, slice_get}
 use Rattle.pl_detect.specs.Based.{IsStateLine}
-use Rattle.pl_links.specs.declared.placed.Placed.{Placed}
 use Rattle.pl_model.specs.declared.timelines.Timeline.{Timeline}
 use Rattle.pl_plan.specs.declared.activity.Activity.{Activity}
 use Rattle.pl_state.specs.declared.reservation.Setting.{Setting}
@@ -11,8 +9,6 @@ use Rattle.pl_state.specs.Sets.{set_key, is_allowed}
 use Rattle.pl_semantics.specs.declared.demand.Demand.{Demand}
 use Rattle.pl_semantics.specs.declared.plan_state.PlanState.{PlanState}
 use Rattle.pl_semantics.specs.Demands.{state_at}
-use Rattle.pl_semantics.specs.Links.{placed_of}
-use Rattle.pl_semantics.specs.PlanStates.{found}
 use Rattle.pl_update.specs.Changes.Replaced.{with_plan}
 use Rattle.pl_bounds.specs.Exchanges.{IsExchange}
 use Rattle.pl_bounds.specs.Marks.{Stands, AreMarks}
@@ -55,11 +51,6 @@ pub record IsNewLast (s : PlanState) (a : Asking) (line : ℕ) (x : Setting) : T
   pub later : s.moment < x.at
   pub horizon : x.at < s.model.horizon
   pub last : EachSet line (IsNotBehind x) a.coming.items
-
--- a live activity, with its end
-pub record IsPlaced (s : PlanState) (p : Placed) : Type 0 where
-  pub id : ℕ
-  pub is : option_map (placed_of s) (found s id) ≡ Some p
 
 -- ---- once what is asked for has been exchanged
 
