@@ -28,11 +28,11 @@ pub record IsSeen (s : PlanState) (u : Seen) : Type 0 where
 abbrev pub EachSet : ℕ → (Setting → Type 0) → List Demand → Type 0
 EachSet line P ds = (z : Setting) → Has z (sets_asked line ds) → P z
 
--- where it stands before this set, its moment has another state than this moment
+-- If the set `z` stands before the set `x`, then the timeline has another state at the moment of `z` than at the moment that was seen.
 abbrev pub IsOtherBefore : PlanState → Seen → Setting → Setting → Type 0
 IsOtherBefore s u x z = key_before (set_key z) (set_key x) ≡ true → state_at s u.line z.at ≢ state_at s u.line u.at
 
--- it does not stand behind this set at the same moment or before
+-- If the set `z` is not later than `x`, it does not stand behind `x`: of sets at one moment the last decides.
 abbrev pub IsNotBehind : Setting → Setting → Type 0
 IsNotBehind x z = z.at ≤ x.at → key_before (set_key x) (set_key z) ≡ false
 
@@ -43,7 +43,8 @@ pub record DoesNotAllow (o : Option Timeline) (from to : ℕ) : Type 0 where
   pub has : HasSteps any steps o
   pub bad : is_allowed any steps from to ≡ false
 
--- It comes, with an id that was not given before, and no set that comes stands behind it at its moment, which lies ahead.
+-- The set comes, from an activity with a new id; its moment lies ahead, and no other set that comes stands behind it there. So it decides
+-- the state at its moment.
 pub record IsNewLast (s : PlanState) (a : Asking) (line : ℕ) (x : Setting) : Type 0 where
   pub states : IsStateLine (slice_get s.model.timelines line)
   pub comes : Has x (sets_asked line a.coming.items)

@@ -16,7 +16,7 @@ use pl_semantics::{Asked, Demand};
 use pl_state::{Must, Setting};
 use std::alloc::AllocError;
 
-// Whether a demand is of another reservation.
+// Whether a demand is not the need of this reservation.
 fn is_of_other(demand: &Demand, must: &Must) -> bool
     ensures { IsTrue result → (line : ℕ) → Has must.now (musts_asked line (demand.now ∷ [])) → ⊥ }
 {
@@ -26,7 +26,7 @@ fn is_of_other(demand: &Demand, must: &Must) -> bool
     }
 }
 
-// Whether all of them are.
+// Whether none of these demands is.
 fn are_of_others(demands: &[Demand], must: &Must) -> bool
     ensures { IsTrue result → (line : ℕ) → Has must.now (musts_asked line demands.now) → ⊥ }
 {
@@ -53,7 +53,7 @@ fn is_broken(board: &Board, asking: &Asking, line: u32, set: &Setting, must: &Mu
     are_of_others(asking.going.as_slice(), must)
 }
 
-// Marks the must if so.
+// Marks the must if the set changes the state that it needs.
 fn mark_must(
     board: &Board,
     asking: &Asking,
@@ -80,7 +80,7 @@ fn mark_must(
     Ok(())
 }
 
-// The same of all musts that need their states at the set.
+// The same for all musts that hold at the moment of the set.
 fn mark_all(
     board: &Board,
     asking: &Asking,
