@@ -5,7 +5,9 @@ use crate::board::changes::change_all;
 use crate::board::counted::takes_so_many_steps;
 use crate::board::lookups::{has_partner, is_spread, is_tried_at};
 use crate::board::mending::is_mended;
-use crate::board::moves::{are_known_to_leave, comes_of, is_known_to_leave, is_made, is_refused, is_tried_for};
+use crate::board::moves::{
+    are_known_to_leave, comes_of, is_known_to_leave, is_made, is_refused, is_tried_for,
+};
 use crate::board::plans::{is_due, is_evaluated, is_in_tree, is_said_of_copy};
 use crate::board::values::{are_conflicts, has_values};
 use crate::reading::sides;
