@@ -20,7 +20,7 @@ use Rattle.pl_machine.specs.declared.repaired.Repaired.TheVariants as repaired
 use Rattle.pl_machine.specs.World.{World, reason_by, reason_of}
 use Rattle.pl_machine.specs.Solo.{Picks, Drawn}
 use Rattle.pl_machine.specs.Mending as mending
-use Rattle.pl_machine.specs.Mending.{is_repairing}
+use Rattle.pl_machine.specs.Mending.{is_repairing, HasRepaired, RepairsOnce}
 use Rattle.pl_acts.specs.declared.held.Held.{Held}
 use Rattle.pl_acts.specs.declared.role.Acted.TheVariants as acted
 use Rattle.pl_acts.specs.Signing.{Written, SignedAnswers, RepairsSigned}

@@ -1,5 +1,5 @@
 -- Names that differ in the text differ in the model, and so do the numbers of the parameters that a slot binds.
-use Rattle.std.proofs.Common.{◌≡◌, ◌≢◌, ℕ, ℤ, List, [], ◌∷◌, ◌++◌, Some, Ok, All, map, bytes_eq, refl, sym, ap, subst, ◌∙◌}
+use Rattle.std.proofs.Common.{◌≡◌, ◌≢◌, ℕ, ℤ, List, [], ◌∷◌, ◌++◌, Option, Some, Ok, All, length, map, slice_get, bytes_eq, refl, sym, ap, subst, ◌∙◌, arith}
 use Rattle.std.specs.Cmp.Lexicographic.{bytes_decides}
 use Rattle.std.proofs.lemmas.List.Elements.{All-nil, All-cons, All-head, All-tail, All-append, All-weaker}
 use Rattle.std.proofs.lemmas.List.Kept.{AllPairs-cons}
@@ -17,6 +17,8 @@ use Rattle.pl_model.specs.declared.expressions.Expr.{Expr}
 use Rattle.pl_model.specs.declared.parameters.Param.{Param}
 use Rattle.pl_model.specs.declared.alternatives.Slot.{Slot}
 use Rattle.pl_model.specs.declared.timelines.Timeline.{Timeline}
+use Rattle.pl_model.specs.declared.timelines.Timeline.TheVariants as timeline
+use Rattle.pl_model.specs.declared.alternatives.Alternative.{Alternative}
 use Rattle.pl_model.specs.declared.kinds.Kind.{Kind}
 use Rattle.pl_model.specs.Names as model
 use Rattle.pl_model.specs.Names.{Differ, bound_number, HasDistinctStates, BindsOnce, HasDistinctSlots, HasDistinctParts}

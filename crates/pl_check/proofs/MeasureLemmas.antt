@@ -1,5 +1,5 @@
 -- The size and the literals of an expression, in the text and numbered.
-use Rattle.std.proofs.Common.{◌≡◌, ℕ, ◌≤◌, ℤ, Bool, true, List, Ok, All, refl, sym, ap, ◌∙◌, arith, [], ◌∷◌}
+use Rattle.std.proofs.Common.{◌≡◌, ℕ, suc, ◌+◌, ◌≤◌, ℤ, Bool, true, List, Ok, Err, All, length, max, refl, sym, ap, subst, ◌∙◌, arith, [], ◌++◌, ◌∷◌}
 use Rattle.std.specs.Prelude.{◌&&◌, nat_le}
 use Rattle.std.specs.List.{flat_map}
 use Rattle.std.proofs.lemmas.Bool.Decides.{nat_tests}
@@ -34,6 +34,7 @@ use Rattle.pl_check.specs.declared.drafts.DraftKind.{DraftKind}
 use Rattle.pl_check.specs.declared.fault.ModelFault.TheVariants as fault
 use Rattle.pl_check.specs.declared.fault.What.TheVariants as what
 use Rattle.pl_check.specs.Judgements.{◌>>=◌, pass, each, at_most, unless}
+use Rattle.pl_check.specs.Names.{Name as Text}
 use Rattle.pl_check.specs.Counts.{nodes_at, nodes_of, few_nodes, counts_in_origin, counts_in_param, counts_in_reservation, counts_in_link, counts_in_binding, counts_in_slot, counts_in_order, counts_in_alternative, counts_in_kind}
 use Rattle.pl_check.specs.Finding.{known, param_named}
 use Rattle.pl_check.specs.Numbering.{numbered}
@@ -43,7 +44,7 @@ use Rattle.pl_check.proofs.SizeLemmas.{then_passes, few}
 use Rattle.pl_check.proofs.RangeLemmas.{test_passes, each_passes}
 use Rattle.pl_lists.proofs.Judging.{bind_ok}
 use Rattle.pl_lists.proofs.Elements.{all_flat}
-use Rattle.pl_check.proofs.PairLemmas.{ok_same}
+use Rattle.pl_check.proofs.PairLemmas.{known_ok, ok_same}
 use Rattle.pl_check.proofs.ExpressionLemmas.{written, numbered-num, numbered-name, numbered-apply}
 use Rattle.pl_check.proofs.ExprListLemmas.{origin_written, param_written, reservation_written, binding_written, slot_written, alternative_written, exprs_written, draft_exprs, exprs_drafted}
 

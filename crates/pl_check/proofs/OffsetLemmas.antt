@@ -1,5 +1,5 @@
 -- The least solution of an alternative's network is the least schedule of the alternative.
-use Rattle.std.proofs.Common.{◌≡◌, ℕ, zero, suc, ◌+◌, ◌*◌, ◌-◌, ◌<◌, ◌≤◌, ℤ, pos, neg_ℤ, ◌≤ℤ◌, ◌⊎◌, inl, inr, List, [], ◌∷◌, ◌++◌, Option, Some, None, All, Contains, length, get_or, slice_get, refl, sym, ap, subst, ◌∙◌, arith}
+use Rattle.std.proofs.Common.{◌≡◌, ℕ, zero, suc, ◌+◌, ◌*◌, ◌-◌, ◌<◌, ◌≤◌, ℤ, pos, neg_ℤ, ◌-ℤ◌, ◌≤ℤ◌, ◌⊎◌, inl, inr, List, [], ◌∷◌, ◌++◌, Option, Some, None, All, Contains, length, get_or, slice_get, refl, sym, ap, subst, ◌∙◌, arith}
 use Rattle.std.proofs.lemmas.Int.{ints}
 use Rattle.std.proofs.lemmas.Bool.{cases_lt}
 use Rattle.std.proofs.lemmas.List.Elements.{All-nil, All-cons, All-head, All-tail, All-append, All-weaker, All-contains, All-contains_itself, Contains-append_left, Contains-append_right}
@@ -11,7 +11,7 @@ use Rattle.pl_model.specs.declared.alternatives.Order.{Order}
 use Rattle.pl_model.specs.declared.alternatives.Alternative.{Alternative}
 use Rattle.pl_model.specs.Schedules.{Moments, IsPlace, IsApart, IsInOrder, IsSchedule, HasLeastOffsets}
 use Rattle.pl_stn.specs.declared.net.Edge.{Edge}
-use Rattle.pl_stn.specs.Nets.{edges_to_origin, time_of, Meets, IsSolution}
+use Rattle.pl_stn.specs.Nets.{edges_to_origin, time_of, Meets, IsSolution, IsLeast}
 use Rattle.pl_check.specs.declared.drafts.DraftAlternative.{DraftAlternative}
 use Rattle.pl_check.specs.Networks.{slot_span, apart, point_of, distance_edges, slots_edges, order_edges, orders_edges, parent_edges, net_of, FinishesAlternative}
 use Rattle.pl_check.proofs.PairLemmas.{all_both}

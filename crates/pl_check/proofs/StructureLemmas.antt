@@ -14,6 +14,9 @@ use Rattle.pl_syntax.specs.declared.parameters.AstParam.{AstParam}
 use Rattle.pl_syntax.specs.declared.alternatives.AstAlternative.{AstAlternative}
 use Rattle.pl_syntax.specs.declared.expressions.AstExpr.{AstExpr}
 use Rattle.pl_model.specs.declared.expressions.Expr.{Expr}
+use Rattle.pl_model.specs.declared.parameters.Param.{Param}
+use Rattle.pl_model.specs.declared.reservations.Reservation.{Reservation}
+use Rattle.pl_model.specs.declared.links.Link.{Link}
 use Rattle.pl_model.specs.declared.alternatives.Alternative.{Alternative}
 use Rattle.pl_model.specs.declared.kinds.Kind.{Kind}
 use Rattle.pl_model.specs.declared.timelines.Timeline.{Timeline}
@@ -39,7 +42,7 @@ use Rattle.pl_check.specs.Judgements.{Judged, pass, ◌>>◌, ◌>>=◌, each, a
 use Rattle.pl_check.specs.Names.{line_name, item_name, twice_in_line, twice_in_kind, twice_in_item, twice_in}
 use Rattle.pl_check.specs.Counts.{few_nodes, counts_in_param, counts_in_reservation, counts_in_link, counts_in_alternative, counts_in_kind, counts_in_line, counts_in_items, counts_in}
 use Rattle.pl_check.specs.Sizes.{IsSmallLine, IsSmallAlternative}
-use Rattle.pl_check.specs.Numbering.{numbered, numbered_line, numbered_param, numbered_reservation, numbered_link, numbered_alternative, numbered_kind, numbered_item, numbered_items}
+use Rattle.pl_check.specs.Numbering.{numbered, numbered_line, numbered_param, numbered_params, numbered_reservation, numbered_reservations, numbered_link, numbered_links, numbered_alternative, numbered_alternatives, numbered_duration, numbered_head, numbered_asks, numbered_kind, numbered_item, numbered_items}
 use Rattle.pl_check.specs.Ranges.{range_in_line, range_in_param, range_in_reservation, range_in_duration, range_in_link, range_in_alternative, range_in_kind, range_in_draft, range_in, is_between, is_possible, duration_bounds}
 use Rattle.pl_check.specs.Drafting.{lines_in, kinds_in}
 use Rattle.pl_check.specs.Dependencies.{IsWellFounded}

@@ -1,7 +1,8 @@
 -- What the grammar gives the tree of a text: names that are names, lists that are not empty, and expressions that are not deep.
-use Rattle.std.proofs.Common.{◌≡◌, ℕ, ◌<◌, ◌≤◌, true, List, [], ◌∷◌, All, length, map, refl, sym, subst, arith}
+use Rattle.std.proofs.Common.{◌≡◌, ℕ, ◌<◌, ◌≤◌, Bool, true, false, List, [], ◌∷◌, ◌++◌, Option, All, length, map, refl, sym, subst, arith}
 use Rattle.std.specs.List.{flat_map}
 use Rattle.std.proofs.lemmas.List.Elements.{All-nil, All-cons, All-append}
+use Rattle.pl_text.specs.Words.{is_name}
 use Rattle.pl_syntax.specs.declared.token.Token.{Token}
 use Rattle.pl_syntax.specs.declared.token.Token.TheVariants as token
 use Rattle.pl_text.specs.declared.word.Word.TheVariants as word
@@ -18,9 +19,9 @@ use Rattle.pl_syntax.specs.declared.parameters.AstParam.{AstParam}
 use Rattle.pl_syntax.specs.declared.alternatives.AstSlot.{AstSlot}
 use Rattle.pl_syntax.specs.declared.alternatives.AstAlternative.{AstAlternative}
 use Rattle.pl_syntax.specs.declared.expressions.AstExpr.{AstExpr}
-use Rattle.pl_syntax.specs.Expressions.{Expr, expr_tree, spell_expr, Fits, limits}
-use Rattle.pl_syntax.specs.Forms.{Name, bare, negative, spell_signed, any_step, only, capacity, level, states, spell_name, spell_step, spell_steps, spell_timeline, OriginForm, plain, default, equals, spell_origin, spell_param, ReservationForm, take, raise, lower, put, must, spell_reservation, spell_link, BindingForm, BindingsForm, no_binding, bindings, SlotForm, AlternativeForm, spell_binding, spell_further, spell_bindings, spell_slot, spell_order, spell_alternative, KindForm, spell_kind, ItemForm, timeline, kind, spell_item, spell_model}
-use Rattle.pl_syntax.specs.Trees.{step_tree, steps_tree, timeline_tree, origin_tree, param_tree, reservation_tree, binding_tree, bindings_tree, slot_tree, alternative_tree, kind_tree, item_tree}
+use Rattle.pl_syntax.specs.Expressions.{Expr, expr_tree, spell_expr, Limits, Fits, limits}
+use Rattle.pl_syntax.specs.Forms.{Name, SignedForm, bare, negative, spell_signed, StepForm, StepsForm, any_step, only, StatesForm, TimelineForm, capacity, level, states, spell_name, spell_step, spell_steps, spell_states, spell_timeline, OriginForm, plain, default, equals, ParamForm, spell_origin, spell_param, ReservationForm, take, raise, lower, put, must, spell_reservation, LinkForm, spell_link, BindingForm, BindingsForm, no_binding, bindings, SlotForm, OrderForm, AlternativeForm, spell_binding, spell_further, spell_bindings, spell_slot, spell_order, spell_alternative, KindForm, spell_kind, ItemForm, timeline, kind, ModelForm, spell_item, spell_model}
+use Rattle.pl_syntax.specs.Trees.{step_tree, steps_tree, timeline_tree, origin_tree, param_tree, reservation_tree, binding_tree, bindings_tree, slot_tree, alternative_tree, kind_tree, item_tree, model_tree}
 use Rattle.pl_syntax.specs.Grammar.{OriginFits, ParamFits, ReservationFits, BindingFits, BindingsFit, SlotFits, AlternativeFits, KindFits, ItemFits}
 use Rattle.pl_syntax.specs.Answers.{ReadsText}
 use Rattle.pl_syntax.proofs.Again.{levels_of, expr_good, expr_levels}

@@ -1,19 +1,27 @@
 -- What the grammar gives the tree stays in the model.
-use Rattle.std.proofs.Common.{◌≡◌, ◌<◌, ℤ, List, [], Ok, All, length, sym, subst, ◌∙◌, arith}
+use Rattle.std.proofs.Common.{◌≡◌, ℕ, ◌<◌, ◌≤◌, ℤ, List, [], Ok, All, length, sym, ap, subst, ◌∙◌, arith}
 use Rattle.pl_syntax.specs.declared.whole.Item.{Item}
 use Rattle.pl_syntax.specs.declared.timelines.AstTimeline.{AstTimeline}
 use Rattle.pl_syntax.specs.declared.timelines.AstTimeline.TheVariants as line
 use Rattle.pl_syntax.specs.declared.kinds.AstKind.{AstKind}
 use Rattle.pl_syntax.specs.declared.parameters.AstParam.{AstParam}
+use Rattle.pl_syntax.specs.declared.alternatives.AstSlot.{AstSlot}
 use Rattle.pl_syntax.specs.declared.alternatives.AstAlternative.{AstAlternative}
+use Rattle.pl_syntax.specs.declared.expressions.AstExpr.{AstExpr}
+use Rattle.pl_model.specs.declared.expressions.Expr.{Expr}
+use Rattle.pl_model.specs.declared.parameters.Param.{Param}
+use Rattle.pl_model.specs.declared.alternatives.Slot.{Slot}
+use Rattle.pl_model.specs.declared.alternatives.Alternative.{Alternative}
 use Rattle.pl_model.specs.declared.kinds.Kind.{Kind}
 use Rattle.pl_model.specs.declared.timelines.Timeline.{Timeline}
 use Rattle.pl_model.specs.Names.{IsName}
+use Rattle.pl_model.specs.Expressions.{exprs_of}
 use Rattle.pl_model.specs.Written.{IsWrittenLine, IsShallow, IsNamedParam, IsNamedSlot, IsWrittenAlternative, IsWrittenKind}
 use Rattle.pl_check.specs.declared.drafts.DraftAlternative.{DraftAlternative}
 use Rattle.pl_check.specs.declared.drafts.DraftKind.{DraftKind}
 use Rattle.pl_check.specs.Judgements.{Judged, each_made}
 use Rattle.pl_check.specs.Numbering.{numbered, numbered_line, numbered_step, numbered_param, numbered_slot, numbered_order, numbered_alternative, state_number}
+use Rattle.pl_lists.specs.Lists.{Pairwise}
 use Rattle.pl_check.specs.Networks.{FinishesAlternative, FinishesKind, span_of}
 use Rattle.pl_lists.proofs.Judging.{bind_ok}
 use Rattle.pl_lists.proofs.Listing.{pairwise_length}

@@ -3,6 +3,7 @@ use Rattle.std.proofs.Common.{◌≡◌, ℕ, List, [], ◌++◌, OnOk, OnErr, I
 use Rattle.std.specs.declared.vec.Vec.{Vec}
 use Rattle.std.specs.declared.alloc.Global.{Global}
 use Rattle.pl_io.specs.declared.errors.LineFault.{LineFault}
+use Rattle.pl_io.specs.declared.errors.LineFault.TheVariants as fault
 use Rattle.pl_io.specs.Lines.{ahead}
 use Rattle.pl_io.specs.Reader.{Reader}
 use Rattle.pl_io.specs.Writes.{AppendsFront}

@@ -8,7 +8,9 @@ use Rattle.pl_input.specs.Words.{is_line_of, begin_word, lines_behind}
 use Rattle.pl_input.specs.Reads.{ReadsLines, Halts, IsUsedUp}
 use Rattle.pl_input.specs.Places.{Place}
 use Rattle.pl_input.specs.Stops.{HaltFor}
+use Rattle.pl_rate.specs.declared.rate.Rate.{Rate}
 use Rattle.pl_rate.specs.Rates.{IsRateOf}
+use Rattle.pl_prefs.specs.declared.prefer.Prefer.{Prefer}
 use Rattle.pl_prefs.specs.Prefers.{IsPreferOf}
 use Rattle.pl_preface.specs.declared.refusal.Refusal.TheVariants as refusal
 use Rattle.pl_preface.specs.Prefaces.{Said, so_far, whole, refused, said}

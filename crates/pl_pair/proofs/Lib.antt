@@ -6,9 +6,6 @@ pub mod Ends
 pub mod Ending
 pub mod Saying
 pub mod Closing
-pub mod Onward
-pub mod OwnLists
-pub mod Inputs
 pub mod Choosing
 pub mod Cutting
 pub mod Owning

@@ -1,5 +1,5 @@
 -- Steps that better a plan, one after the other.
-use Rattle.std.proofs.Common.{◌≡◌, ℕ, suc, ◌+◌, ◌<◌, ◌≤◌, ℤ, Bool, false, List, [], ◌∷◌, ◌++◌, length, Some, refl, sym, ◌∙◌, ap, subst, append_assoc, length-append, add-zero, arith}
+use Rattle.std.proofs.Common.{◌≡◌, ◌≢◌, ℕ, suc, ◌+◌, ◌<◌, ◌≤◌, ℤ, Bool, true, false, List, [], ◌∷◌, ◌++◌, length, Option, Some, None, refl, sym, ◌∙◌, ap, subst, append_assoc, length-append, add-zero, arith}
 use Rattle.std.proofs.lemmas.List.{append-nil}
 use Rattle.pl_model.specs.declared.whole.Model.{Model}
 use Rattle.pl_plan.specs.declared.repair.RepairMove.{RepairMove}
@@ -10,11 +10,11 @@ use Rattle.pl_semantics.specs.Moves.{applied}
 use Rattle.pl_board.specs.Boards.{Standing, after}
 use Rattle.pl_prefs.specs.declared.prefer.Prefer.{Prefer}
 use Rattle.pl_prefs.specs.Scores.{score}
-use Rattle.pl_prefs.specs.Betters.{changes_in, score_after, is_better, better, IsBest}
+use Rattle.pl_prefs.specs.Betters.{changes_in, score_after, is_better, better, IsBest, IsFirstBest}
 use Rattle.pl_prefs.specs.Scoreds.{Scoring, IsScored, IsStepped, StandsFor}
 use Rattle.pl_prefs.specs.declared.score_fault.ScoreFault.TheVariants.{Conflicts}
 use Rattle.pl_prefs.proofs.Sorts.{IsChange, all_changes, best_change}
-use Rattle.pl_report.specs.Improvements.{IsStep, AreSteps, state_behind, IsSomeBest, first_line, step_line, step_lines, last_line, conflicts_line, IsBettered, IsImprovement, IsOneMore, AreMade, AreAllMade}
+use Rattle.pl_report.specs.Improvements.{IsStep, AreSteps, state_behind, IsSomeBest, first_line, step_line, step_lines, last_line, conflicts_line, steps_text, IsBettered, IsImprovement, IsOneMore, IsTry, AreMade, AreAllMade}
 
 -- the score that is told of a plan is the one of its definition
 pub told_score : (s : Scoring) (points : ℤ) → s.board.spoiled ≡ false → points ≡ s.score → (s.board.spoiled ≡ false → IsScored s.board.state s.prefers points) → s.score ≡ score s.board.state s.prefers

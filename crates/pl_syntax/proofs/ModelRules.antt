@@ -26,7 +26,7 @@ use Rattle.pl_syntax.specs.Reading.{list_of, pair, is_origin, defaulted, valued,
 use Rattle.pl_syntax.proofs.Loops.{Any}
 use Rattle.pl_syntax.proofs.Sets.{Set, has, nothing, told_word, told_symbol}
 use Rattle.pl_syntax.proofs.Grammars.{Rule, word as a_word, symbol as a_symbol, seq, second, first, many, renamed, mapped, choice, optional}
-use Rattle.pl_syntax.proofs.Classes.{name}
+use Rattle.pl_syntax.proofs.Classes.{name, number}
 use Rattle.pl_syntax.proofs.ExprRule.{operators, expression}
 use Rattle.pl_syntax.proofs.TimelineRules.{numeral, signed, a_point, a_place, step_bars, all_any, a_timeline}
 

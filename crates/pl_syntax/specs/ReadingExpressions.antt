@@ -9,7 +9,7 @@ use Rattle.pl_model.specs.declared.expressions.Op.{Op}
 use Rattle.pl_model.specs.declared.expressions.Op.TheVariants as op
 use Rattle.pl_syntax.specs.Expressions.{plus, minus, Pick, least, most, pick_op, sign_op, Measured, apply}
 use Rattle.pl_syntax.specs.Faults.{too_deep}
-use Rattle.pl_syntax.specs.Parsing.{Parser, ◌>>=◌, pure, stuck, expect, eats, go_or_stop, natural_of}
+use Rattle.pl_syntax.specs.Parsing.{Parser, ◌>>=◌, ◌>>◌, pure, stuck, expect, eats, go_or_stop, natural_of}
 
 -- a factor, given how to read the inside of brackets, if another bracket may be opened
 abbrev pub group_by : Parser Measured → Parser Measured

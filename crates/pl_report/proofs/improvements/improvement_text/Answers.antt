@@ -1,4 +1,4 @@
-use Rattle.std.proofs.Common.{◌≡◌, List, ap, ◌∙◌, sym, subst, ◌≤◌}
+use Rattle.std.proofs.Common.{◌≡◌, List, ap, ◌∙◌, sym, subst, ℕ, ◌≤◌}
 use Rattle.std.specs.Prelude.{All}
 use Rattle.pl_board.specs.Boards.{Standing}
 use Rattle.pl_semantics.specs.declared.plan_state.PlanState.{PlanState}
