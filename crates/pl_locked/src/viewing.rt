@@ -26,6 +26,7 @@ impl SharedPlan {
         let before = held.busy();
         let acted = held.execute(by);
         let behind = held.busy();
+        self.bells.note(behind);
         self.leave(pass, held);
         self.bells.ring(rt, before, behind);
         acted
@@ -51,6 +52,7 @@ impl SharedPlan {
         let before = held.busy();
         let looked = held.look_or_repair(by, chooser, at_once, alloc);
         let behind = held.busy();
+        self.bells.note(behind);
         self.leave(pass, held);
         self.bells.ring(rt, before, behind);
         looked
@@ -161,6 +163,7 @@ impl SharedPlan {
         let before = held.busy();
         let acted = held.settle(by, chooser, sight);
         let behind = held.busy();
+        self.bells.note(behind);
         self.leave(pass, held);
         self.bells.ring(rt, before, behind);
         acted
