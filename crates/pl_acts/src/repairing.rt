@@ -13,7 +13,7 @@ use std::alloc::Global;
 
 impl Held {
     /// Whether the planner's chooser is to be asked, and the log has room for what it proposes.
-    #[tactic(auto, using(crate::proofs::Repairing::may_repair))]
+    #[tactic(auto, using(crate::proofs::AtOnce::may_repair))]
     fn may_repair(&self) -> bool
         ensures { result ≡ true → MayRepair self.now }
     {
@@ -33,7 +33,7 @@ impl Held {
     }
 
     /// Makes what the chooser proposes, or lets repair rest where nothing can be repaired.
-    #[tactic(auto, using(crate::proofs::Repairing::fixed_at_once, crate::proofs::Repairing::stuck_at_once, crate::proofs::Repairing::repair_stops))]
+    #[tactic(auto, using(crate::proofs::AtOnce::fixed_at_once, crate::proofs::AtOnce::stuck_at_once, crate::proofs::AtOnce::repair_stops))]
     fn repair_at_once(&mut self, by: Author, chooser: &mut Seeded) -> Result<Looked, Stop>
         requires author { IsAuthor by }
         requires may { MayRepair self.old }

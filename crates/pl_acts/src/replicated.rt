@@ -148,7 +148,7 @@ impl Replicated {
     }
 
     /// Lets a chooser draw the words of a choice. What it proposes is dropped.
-    #[tactic(auto, using(crate::proofs::Repairing::proposed_keeps, crate::proofs::Repairing::written_kept))]
+    #[tactic(auto, using(crate::proofs::AtOnce::proposed_keeps, crate::proofs::AtOnce::written_kept))]
     pub(crate) fn draw<C: Chooser>(&mut self, chooser: &mut C)
         requires { self.old.machine.spoiled ≡ false }
         ensures keeps { HasSameLog self.old self.new }

@@ -47,7 +47,7 @@ use Rattle.pl_acts.specs.Signing.{Written}
 use Rattle.pl_acts.specs.Inside.{signs_in, items_in, IsSound, IsStepIn, Logs, KeepsLog, Spoiled, can_listen, FeedsIn, IsPart, Wants, Executes, ExecutesIn, RestsAtOnce, LooksIn, SettlesIn, MayRepair, RepairsAtOnce, RepairsIn, LooksOrRepairs}
 use Rattle.pl_acts.specs.Seen.{IsPlan, IsFull, Copies}
 use Rattle.pl_acts.proofs.Replicas.{replica_here, moves_here}
-use Rattle.pl_acts.proofs.Repairing.{seeded_is_proposal}
+use Rattle.pl_acts.proofs.AtOnce.{seeded_is_proposal}
 use Rattle.pl_acts.proofs.Growing.{keeps_items, logs_items, stopped_first, same_held, plan_in, some_model, some_opening, grown_prefix}
 use Rattle.pl_acts.proofs.Items.{length_going, model_in_items, opening_in_items, in_world_of, in_world, world_in, prefix_whole, stop_in_same, entries_in_items}
 use Rattle.pl_locked.specs.declared.plan.SharedPlan.{SharedPlan}

@@ -1,5 +1,5 @@
 -- What comes of a repair in the turn in which a planner looks.
-use Rattle.std.proofs.Common.{◌≡◌, ℕ, ◌+◌, ◌<◌, List, [], ◌∷◌, length, Bool, true, false, Option, Some, None, Result, Ok, Err, refl, sym, ◌∙◌, ap, subst, ◌⊎◌, inl, inr, arith}
+use Rattle.std.proofs.Common.{◌≡◌, ℕ, ◌+◌, ◌<◌, ◌≤◌, List, [], ◌∷◌, length, Bool, true, false, Option, Some, None, Result, Ok, Err, refl, sym, ◌∙◌, ap, subst, ◌⊎◌, inl, inr, arith}
 use Rattle.std.specs.Prelude.{not, ◌&&◌, ◌||◌, is_some, nat_le, ◌==◌}
 use Rattle.std.specs.List.{All}
 use Rattle.std.proofs.lemmas.Bool.{leb-false}
@@ -123,7 +123,10 @@ asked_once w g g2 (inr asked) = inr asked.2
 pub repair_stops : (a : Author) (old : Held) (w : Written) (g g2 : Lcg) (s : Stop) → MayRepair old → RepairsSigned seeded words_drawn a old.plan g (Err s) w g2 → RepairsIn a g old (Err s) g2 (with_plan w old)
 repair_stops a old w g g2 stop.Spoiled may answers = absurd (let h : true ≡ false = sym answers.0.0 ∙ may.going.unspoiled in cc)
 repair_stops a old w g g2 stop.NotNow may answers = absurd (let h : true ≡ false = sym may.asks.1 ∙ answers.0.1 in cc)
-repair_stops a old w g g2 stop.LogFull may answers = absurd (let full = answers.0.2 in let room = may.room in omega arith)
+repair_stops a old w g g2 stop.LogFull may answers =
+    let full : old.plan.machine.world.options.entries ≤ length old.plan.machine.log = answers.0.2 in
+    let room : length old.plan.machine.log < old.plan.machine.world.options.entries = may.room in
+    absurd (omega (arith, full, room))
 repair_stops a old w g g2 stop.Memory may (inl answers) =
     (inl (spoils_held old w answers.0.0 answers.0.1 answers.1), asked_once old.plan.machine.world g g2 answers.0.2)
 repair_stops a old w g g2 stop.Memory may (inr same) = (inr (may.going.unspoiled, same_plan old w same.0), inl same.1)
