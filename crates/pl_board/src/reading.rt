@@ -1,17 +1,22 @@
-ghost use Rattle.std.specs.Prelude.{◌≡◌, ◌≤◌, ◌<◌, ℕ, true, false, slice_get};
+ghost use Rattle.std.specs.Prelude.{◌≡◌, ◌↔◌, ◌≤◌, ◌<◌, ℕ, true, false, slice_get, IfOk};
 ghost use Rattle.std.specs.Option.{option_copied};
 ghost use Rattle.pl_model.specs.Checked.{IsCapacityLine, IsLevelLine};
 ghost use Rattle.pl_points.specs.Sums.{IsSmall};
 ghost use Rattle.pl_points.specs.Points.{is_out};
-ghost use Rattle.pl_semantics.specs.Demands.{use_at, level_at, state_at};
+ghost use Rattle.pl_semantics.specs.Demands.{demands_of, musts_of, use_at, level_at, state_at};
 ghost use Rattle.pl_detect.specs.Based.{IsStateLine};
 ghost use Rattle.pl_semantics.specs.PlanStates.{floor_of};
+ghost use Rattle.pl_state.specs.declared.reservation.Must.{Must};
+ghost use Rattle.pl_state.specs.Keys.{Has};
+ghost use Rattle.pl_state.specs.Musts.{holds_at};
 ghost use Rattle.pl_update.specs.Evaluations.Kept.{come_to};
 
 use crate::board::Board;
 use pl_facts::{Bases, Goals};
 use pl_model::Model;
 use pl_plan::{Evaluated, Plan};
+use pl_state::Must;
+use std::alloc::AllocError;
 
 impl Board {
     /// The model that is planned for.
@@ -147,5 +152,18 @@ impl Board {
             return 0;
         }
         self.watched().lines.state_at(line, t)
+    }
+
+    /// The musts that need their states of the timeline at a moment, under the same conditions. A spoiled board tells none.
+    pub fn musts_at(&self, line: u32, t: u32) -> Result<Vec<Must>, AllocError>
+        requires states { self.now.spoiled ≡ false → IsStateLine (slice_get self.now.state.model.timelines line) }
+        requires now { self.now.spoiled ≡ false → self.now.state.moment ≤ t }
+        requires before_horizon { self.now.spoiled ≡ false → t < self.now.state.model.horizon }
+        ensures { self.now.spoiled ≡ false → IfOk result (λ v. (m : Must) → Has m v.items ↔ (Has m (musts_of line (demands_of self.now.state)) × (holds_at t m ≡ true))) }
+    {
+        if self.spoiled() {
+            return Ok(Vec::new(self.alloc()));
+        }
+        self.watched().lines.musts_at(self.alloc(), line, t)
     }
 }

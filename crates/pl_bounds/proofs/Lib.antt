@@ -52,7 +52,6 @@ pub mod Governing
 pub mod Having
 pub mod States
 pub mod Needed
-pub mod Reserved
 pub mod Bare
 pub mod Marking
 pub mod Chosen

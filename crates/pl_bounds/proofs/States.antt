@@ -46,6 +46,9 @@ asked_set line ds x has = there same_setting set_exact set_itself x (sets_of lin
 pub asked_must : (line : ℕ) (ds : List Demand) (m : Must) → Has m (musts_asked line ds) → Has m (musts_of line ds)
 asked_must line ds m has = there same_must exact_must must_itself m (musts_of line ds) (omega (arith, ints, counted same_must exact_must must_itself m (musts_asked line ds) has, musts_total line ds (like same_must exact_must must_itself m)))
 
+pub must_asked : (line : ℕ) (ds : List Demand) (m : Must) → Has m (musts_of line ds) → Has m (musts_asked line ds)
+must_asked line ds m has = there same_must exact_must must_itself m (musts_asked line ds) (omega (arith, ints, counted same_must exact_must must_itself m (musts_of line ds) has, musts_total line ds (like same_must exact_must must_itself m)))
+
 pub distinct_sets : (s : PlanState) → AreRising s.plan.activities → (line : ℕ) → AreDistinct set_key (sets_of line (demands_of s))
 distinct_sets s rising line = distinct_counted (λ (x : Setting). x.at) (λ x. x.id) (λ x. x.index) (sets_of line (demands_of s)) (once_set s line rising)
 

@@ -14,18 +14,19 @@ use Rattle.pl_bounds.specs.declared.asking.Asking.{Asking}
 abbrev pub bare : PlanState → Activity → PlanState
 bare s a = record s { plan = record { activities = without_goal a ∷ [] }; goals = [] }
 
--- the same once an alternative of it is chosen
+-- the state once an alternative of the activity is chosen there
 abbrev pub chosen_alone : PlanState → Activity → ℕ → PlanState
 chosen_alone s a alternative = applied (bare s a) (Detail a.id alternative)
 
--- its kind has alternatives
+-- its kind has alternatives, so it lacks one until one is chosen
 abbrev pub lacks : PlanState → Activity → Bool
 lacks s a = not (length (alternatives_of (kind_of s.model a)) == 0)
 
 abbrev pub kind_of_one : Activity → ℕ
 kind_of_one a = a.kind
 
--- what is asked for less and more by the choice, as it stands at 0
+-- What the activity asked for before the choice, and what it and its children ask for after it. A choice moves nothing, so both stand as
+-- they are: the start that they would be moved from is 0, as is the one that they would be moved to.
 pub record IsAskedByChoice (s : PlanState) (id alternative : ℕ) (a : Asking) : Type 0 where
   pub exchange : IsExchange s (id ∷ []) (placed_by s (Detail id alternative)) a.going.items a.coming.items
   pub start : a.start ≡ 0

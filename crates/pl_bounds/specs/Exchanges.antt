@@ -6,7 +6,7 @@ use Rattle.pl_semantics.specs.declared.plan_state.PlanState.{PlanState}
 use Rattle.pl_update.specs.Changes.Replaced.{CanReplace, with_plan}
 use Rattle.pl_update.specs.Timelines.Laws.{AreOnce, gone_from, coming_to}
 
--- these activities can be replaced, and just so much is asked for less and more
+-- The activities of these ids can be replaced by these others. `going` is what the first ask for, and `coming` what the others do.
 pub record IsExchange (s : PlanState) (gone : List ℕ) (more : List Activity) (going coming : List Demand) : Type 0 where
   pub can : CanReplace s gone more
   pub once : AreOnce gone

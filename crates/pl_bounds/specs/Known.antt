@@ -1,4 +1,4 @@
--- What is known of moves that place the same at other starts.
+-- What is known of moves that place the same activities at other starts.
 use Rattle.std.specs.Prelude.{ℕ, ◌+◌, ◌≤◌, None, IfSome, All}
 use Rattle.pl_plan.specs.declared.repair.RepairMove.{RepairMove}
 use Rattle.pl_semantics.specs.declared.plan_state.PlanState.{PlanState}

@@ -9,7 +9,7 @@ use Rattle.pl_semantics.specs.declared.plan_state.PlanState.{PlanState}
 use Rattle.pl_semantics.specs.Conflicts.{conflicts_of}
 use Rattle.pl_bounds.specs.declared.marks.Mark.{Mark}
 
--- of a needed state, or of a step
+-- a state that is needed and does not hold, or a step that is not allowed
 abbrev pub is_of_states : Code → Bool
 is_of_states code.Must = true
 is_of_states code.BadStep = true
@@ -29,14 +29,14 @@ is_step _ = false
 abbrev pub mark_of : Code → ℕ → ℕ → Mark
 mark_of why subject detail = record { is_step = is_step why; subject = subject; detail = detail }
 
--- a conflict that the mark tells of
+-- a conflict stands that the mark tells of
 pub record Stands (s : PlanState) (k : Mark) : Type 0 where
   pub q : Conflict
   pub there : has q (conflicts_of s) ≡ true
   pub states : is_of_states q.code ≡ true
   pub is : mark_of q.code q.subject q.detail ≡ k
 
--- none of them is there twice
+-- none of these marks is there twice
 abbrev pub AreOther : List Mark → Type 0
 AreOther [] = Unit {0}
 AreOther (k ∷ ks) = (Has k ks → ⊥) × AreOther ks

@@ -1,8 +1,6 @@
 -- The state of a timeline at a moment ahead, and what is known of states once a replacement is made.
-use Rattle.std.specs.Prelude.{◌≡◌, ◌≢◌, ℕ, ◌≤◌, ◌<◌, Bool, true, false, List, Option, Some, slice_get}
-use Rattle.std.specs.Option.{option_map}
+use Rattle.std.specs.Prelude.{◌≡◌, ◌≢◌, ℕ, ◌≤◌, ◌<◌, Bool, true, false, List, Option, slice_get}
 use Rattle.pl_detect.specs.Based.{IsStateLine}
-use Rattle.pl_links.specs.declared.placed.Placed.{Placed}
 use Rattle.pl_model.specs.declared.timelines.Timeline.{Timeline}
 use Rattle.pl_plan.specs.declared.activity.Activity.{Activity}
 use Rattle.pl_state.specs.declared.reservation.Setting.{Setting}
@@ -11,8 +9,6 @@ use Rattle.pl_state.specs.Sets.{set_key, is_allowed}
 use Rattle.pl_semantics.specs.declared.demand.Demand.{Demand}
 use Rattle.pl_semantics.specs.declared.plan_state.PlanState.{PlanState}
 use Rattle.pl_semantics.specs.Demands.{state_at}
-use Rattle.pl_semantics.specs.Links.{placed_of}
-use Rattle.pl_semantics.specs.PlanStates.{found}
 use Rattle.pl_update.specs.Changes.Replaced.{with_plan}
 use Rattle.pl_bounds.specs.Exchanges.{IsExchange}
 use Rattle.pl_bounds.specs.Marks.{Stands, AreMarks}
@@ -32,11 +28,11 @@ pub record IsSeen (s : PlanState) (u : Seen) : Type 0 where
 abbrev pub EachSet : ℕ → (Setting → Type 0) → List Demand → Type 0
 EachSet line P ds = (z : Setting) → Has z (sets_asked line ds) → P z
 
--- where it stands before this set, its moment has another state than this moment
+-- If the set `z` stands before the set `x`, then the timeline has another state at the moment of `z` than at the moment that was seen.
 abbrev pub IsOtherBefore : PlanState → Seen → Setting → Setting → Type 0
 IsOtherBefore s u x z = key_before (set_key z) (set_key x) ≡ true → state_at s u.line z.at ≢ state_at s u.line u.at
 
--- it does not stand behind this set at the same moment or before
+-- If the set `z` is not later than `x`, it does not stand behind `x`: of sets at one moment the last decides.
 abbrev pub IsNotBehind : Setting → Setting → Type 0
 IsNotBehind x z = z.at ≤ x.at → key_before (set_key x) (set_key z) ≡ false
 
@@ -47,7 +43,8 @@ pub record DoesNotAllow (o : Option Timeline) (from to : ℕ) : Type 0 where
   pub has : HasSteps any steps o
   pub bad : is_allowed any steps from to ≡ false
 
--- It comes, with an id that was not given before, and no set that comes stands behind it at its moment, which lies ahead.
+-- The set comes, from an activity with a new id; its moment lies ahead, and no other set that comes stands behind it there. So it decides
+-- the state at its moment.
 pub record IsNewLast (s : PlanState) (a : Asking) (line : ℕ) (x : Setting) : Type 0 where
   pub states : IsStateLine (slice_get s.model.timelines line)
   pub comes : Has x (sets_asked line a.coming.items)
@@ -55,11 +52,6 @@ pub record IsNewLast (s : PlanState) (a : Asking) (line : ℕ) (x : Setting) : T
   pub later : s.moment < x.at
   pub horizon : x.at < s.model.horizon
   pub last : EachSet line (IsNotBehind x) a.coming.items
-
--- a live activity, with its end
-pub record IsPlaced (s : PlanState) (p : Placed) : Type 0 where
-  pub id : ℕ
-  pub is : option_map (placed_of s) (found s id) ≡ Some p
 
 -- ---- once what is asked for has been exchanged
 

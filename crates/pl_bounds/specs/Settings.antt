@@ -16,8 +16,8 @@ sets_asked line ds = flat_map (asked_of set_in line) ds
 abbrev pub musts_asked : ℕ → List Demand → List Must
 musts_asked line ds = flat_map (asked_of must_in line) ds
 
--- Each state that one of these sets has at its own moment, up to this one, is another than stands here. So a set that is none of them
--- stands between, and the state here hangs on none of them.
+-- At the moment of each of these sets that is not later than `t`, the timeline has another state than at `t`. So a set that is none of
+-- them stands between, and the state at `t` hangs on none of them.
 abbrev pub HangsOnNone : PlanState → ℕ → ℕ → List Demand → Type 0
 HangsOnNone s line t ds = (x : Setting) → Has x (sets_asked line ds) → x.at ≤ t → state_at s line x.at ≢ state_at s line t
 

@@ -17,7 +17,7 @@ use Rattle.pl_bounds.specs.declared.stepwise.Way.{Way}
 
 -- ---- one step
 
--- by this amount, or back by it
+-- a step up by this amount, or down by it
 abbrev pub step_by : ℕ → ℤ → Bool → Bool → Step
 step_by at amount true comes = record { at = at; gain = amount; loss = pos 0; comes = comes }
 step_by at amount false comes = record { at = at; gain = pos 0; loss = amount; comes = comes }
@@ -51,7 +51,7 @@ is_past_by s o w steps t = is_past o.side o.limit (value_at s o.side o.line t +�
 
 -- ---- demands
 
--- what is asked for adds if it comes, moved along, or takes back if it goes
+-- What is asked for adds this much if it comes, moved along with the start; if it goes, so much is taken back.
 abbrev pub asked_toward : Side → ℕ → Way → ℕ → Bool → Asked → ℤ
 asked_toward side since w t true a = asked_on side since t (asked_moved w.from w.to a)
 asked_toward side since w t false a = neg_ℤ (asked_on side since t a)
@@ -63,6 +63,6 @@ demand_toward o w t comes d = if d.line == o.line then asked_toward o.side o.sin
 abbrev pub added_by : Outside → List Demand → List Demand → ℕ → ℤ
 added_by o going coming t = pull o t coming -ℤ pull o t going
 
--- at this limit of this timeline they add what the move changes
+-- At its limit of its timeline the steps add what the move changes there, to whichever start it is moved.
 abbrev pub IsAdditionOf : Asking → Addition → Type 0
 IsAdditionOf a x = (o : Outside) → o.line ≡ x.line → o.side ≡ x.side → (w : Way) (t : ℕ) → steps_on o w t x.steps.items ≡ added_by o a.going.items (moved_by w a.coming.items) t

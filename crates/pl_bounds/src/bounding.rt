@@ -143,7 +143,7 @@ fn is_steady(walk: Walk) -> bool {
     u64::from(walk.tally.end) <= walk.added.until
 }
 
-// Whether the timeline may be past its limit behind the last look.
+// Whether the timeline may be past its limit after the last look.
 fn may_be_past_behind(walk: Walk, outside: &Outside, change: &Change<'_>) -> bool {
     if outside.side == Side::Over {
         return true;

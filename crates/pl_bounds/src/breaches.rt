@@ -1,45 +1,22 @@
 //! States that other activities need and that a new set changes.
-ghost use Rattle.std.specs.Prelude.{◌≡◌, ◌≢◌, ◌≤◌, ◌<◌, ◌∷◌, [], ℕ, false, Some, IfSome, IsTrue, OnOk, slice_get};
+ghost use Rattle.std.specs.Prelude.{◌≡◌, ◌∷◌, [], ℕ, true, false, IsTrue, OnOk};
 ghost use Rattle.pl_conflict.specs.declared.conflict.Code.TheVariants as code;
-ghost use Rattle.pl_model.specs.declared.reservations.Reservation.TheVariants as variant;
-ghost use Rattle.pl_semantics.specs.PlanStates.{reservations_in};
+ghost use Rattle.pl_semantics.specs.Demands.{demands_of, musts_of};
 ghost use Rattle.pl_state.specs.Keys.{Has};
+ghost use Rattle.pl_state.specs.Musts.{holds_at};
 ghost use Rattle.pl_bounds.specs.Marks.{mark_of};
-ghost use Rattle.pl_bounds.specs.Seen.{AreMarksThen, IsNewLast, IsPlaced, StandsThen};
+ghost use Rattle.pl_bounds.specs.Seen.{AreMarksThen, IsNewLast, StandsThen};
 ghost use Rattle.pl_bounds.specs.Settings.{musts_asked, sets_asked};
 
 use crate::asking::Asking;
 use crate::marks::{Mark, add_mark};
 use crate::seen::{is_last, seen_at};
 use pl_board::Board;
-use pl_links::Placed;
-use pl_model::{Model, Reservation};
-use pl_plan::Activity;
 use pl_semantics::{Asked, Demand};
 use pl_state::{Must, Setting};
 use std::alloc::AllocError;
 
-// Only activities are looked at that start at the set or so little before it.
-const NEAR: u32 = 48;
-
-// The other state that a reservation needs of this timeline, if it needs one.
-fn needs_other(reservation: &Reservation, line: u32, state: u32) -> Option<u32>
-    ensures is { IfSome result (λ q. reservation.now ≡ variant.Must line q) }
-    ensures other { IfSome result (λ q. state ≢ q) }
-{
-    match reservation {
-        Reservation::Must(of, needed) => {
-            if *of == line && *needed != state {
-                Some(*needed)
-            } else {
-                None
-            }
-        }
-        _ => None,
-    }
-}
-
-// Whether a demand is of another reservation.
+// Whether a demand is not the need of this reservation.
 fn is_of_other(demand: &Demand, must: &Must) -> bool
     ensures { IsTrue result → (line : ℕ) → Has must.now (musts_asked line (demand.now ∷ [])) → ⊥ }
 {
@@ -49,7 +26,7 @@ fn is_of_other(demand: &Demand, must: &Must) -> bool
     }
 }
 
-// Whether all of them are.
+// Whether none of these demands is.
 fn are_of_others(demands: &[Demand], must: &Must) -> bool
     ensures { IsTrue result → (line : ℕ) → Has must.now (musts_asked line demands.now) → ⊥ }
 {
@@ -61,156 +38,49 @@ fn are_of_others(demands: &[Demand], must: &Must) -> bool
     true
 }
 
-// Whether the set changes a state that an activity needs by this reservation.
-fn is_broken(
-    board: &Board,
-    asking: &Asking,
-    line: u32,
-    set: &Setting,
-    own: &Placed,
-    index: u32,
-    reservation: &Reservation,
-) -> bool
+// Whether the set changes the state that this must needs, and the must stays.
+fn is_broken(board: &Board, asking: &Asking, line: u32, set: &Setting, must: &Must) -> bool
     requires unspoiled { board.now.spoiled ≡ false }
     requires new { IsNewLast board.now.state asking.now line set.now }
-    requires placed { IsPlaced board.now.state own.now }
-    requires reserved { slice_get (reservations_in (slice_get board.now.state.model.kinds own.now.kind)) index ≡ Some reservation.now }
-    ensures { IsTrue result → StandsThen board.now.state asking.now (mark_of code.Must own.now.id index) }
+    requires needed { Has must.now (musts_of line (demands_of board.now.state)) }
+    requires holds { holds_at set.now.at must.now ≡ true }
+    ensures { IsTrue result → StandsThen board.now.state asking.now (mark_of code.Must must.now.id must.now.index) }
 {
     let _state = board.state();
-    let Some(end) = own.end else {
-        return false;
-    };
-    if set.at < own.start {
+    if must.state == set.state {
         return false;
     }
-    if end <= set.at {
-        return false;
-    }
-    let Some(state) = needs_other(reservation, line, set.state) else {
-        return false;
-    };
-    let must = Must {
-        from: own.start,
-        to: end,
-        id: own.id,
-        index,
-        state,
-    };
-    are_of_others(asking.going.as_slice(), &must)
+    are_of_others(asking.going.as_slice(), must)
 }
 
-fn mark_reservation(
+// Marks the must if the set changes the state that it needs.
+fn mark_must(
     board: &Board,
     asking: &Asking,
     line: u32,
     set: &Setting,
-    own: &Placed,
-    index: u32,
-    reservation: &Reservation,
+    must: &Must,
     marks: &mut Vec<Mark>,
 ) -> Result<(), AllocError>
     requires unspoiled { board.now.spoiled ≡ false }
     requires new { IsNewLast board.now.state asking.now line set.now }
-    requires placed { IsPlaced board.now.state own.now }
-    requires reserved { slice_get (reservations_in (slice_get board.now.state.model.kinds own.now.kind)) index ≡ Some reservation.now }
+    requires needed { Has must.now (musts_of line (demands_of board.now.state)) }
+    requires holds { holds_at set.now.at must.now ≡ true }
     ensures { OnOk result (AreMarksThen board.now.state asking.now marks.old.items → AreMarksThen board.now.state asking.now marks.new.items) }
 {
-    if !is_broken(board, asking, line, set, own, index, reservation) {
+    if !is_broken(board, asking, line, set, must) {
         return Ok(());
     }
     let mark = Mark {
         is_step: false,
-        subject: own.id,
-        detail: index,
+        subject: must.id,
+        detail: must.index,
     };
     add_mark(marks, mark)?;
     Ok(())
 }
 
-fn reservations_of(model: &Model, kind: u32) -> &[Reservation]
-    ensures { result.now ≡ reservations_in (slice_get model.now.kinds kind) }
-{
-    match model.kinds.as_slice().get(kind as usize) {
-        Some(kind) => kind.reservations.as_slice(),
-        None => &[],
-    }
-}
-
-// The same of its reservation of this number.
-fn mark_at(
-    board: &Board,
-    asking: &Asking,
-    line: u32,
-    set: &Setting,
-    own: &Placed,
-    index: u32,
-    marks: &mut Vec<Mark>,
-) -> Result<(), AllocError>
-    requires unspoiled { board.now.spoiled ≡ false }
-    requires new { IsNewLast board.now.state asking.now line set.now }
-    requires placed { IsPlaced board.now.state own.now }
-    ensures { OnOk result (AreMarksThen board.now.state asking.now marks.old.items → AreMarksThen board.now.state asking.now marks.new.items) }
-{
-    match reservations_of(board.model(), own.kind).get(index as usize) {
-        Some(reservation) => mark_reservation(
-            board,
-            asking,
-            line,
-            set,
-            own,
-            index,
-            reservation,
-            marks,
-        ),
-        None => Ok(()),
-    }
-}
-
-// The same of all its reservations.
-fn mark_activity(
-    board: &Board,
-    asking: &Asking,
-    line: u32,
-    set: &Setting,
-    own: &Placed,
-    marks: &mut Vec<Mark>,
-) -> Result<(), AllocError>
-    requires unspoiled { board.now.spoiled ≡ false }
-    requires new { IsNewLast board.now.state asking.now line set.now }
-    requires placed { IsPlaced board.now.state own.now }
-    ensures { OnOk result (AreMarksThen board.now.state asking.now marks.old.items → AreMarksThen board.now.state asking.now marks.new.items) }
-{
-    let count = reservations_of(board.model(), own.kind).len();
-    for index in 0..count.min(u32::MAX as usize) as u32 {
-        mark_at(board, asking, line, set, own, index, marks)?;
-    }
-    Ok(())
-}
-
-// The same of an activity that starts near the set.
-fn mark_near(
-    board: &Board,
-    asking: &Asking,
-    line: u32,
-    set: &Setting,
-    a: &Activity,
-    marks: &mut Vec<Mark>,
-) -> Result<(), AllocError>
-    requires unspoiled { board.now.spoiled ≡ false }
-    requires new { IsNewLast board.now.state asking.now line set.now }
-    ensures { OnOk result (AreMarksThen board.now.state asking.now marks.old.items → AreMarksThen board.now.state asking.now marks.new.items) }
-{
-    if set.at < a.start || NEAR <= set.at - a.start {
-        return Ok(());
-    }
-    match board.placed(a.id) {
-        Some(own) => mark_activity(board, asking, line, set, &own, marks),
-        None => Ok(()),
-    }
-}
-
-// The same of all activities.
+// The same for all musts that hold at the moment of the set.
 fn mark_all(
     board: &Board,
     asking: &Asking,
@@ -222,8 +92,9 @@ fn mark_all(
     requires new { IsNewLast board.now.state asking.now line set.now }
     ensures { OnOk result (AreMarksThen board.now.state asking.now marks.old.items → AreMarksThen board.now.state asking.now marks.new.items) }
 {
-    for a in board.plan().activities() {
-        mark_near(board, asking, line, set, a, marks)?;
+    let musts = board.musts_at(line, set.at)?;
+    for must in musts.as_slice() {
+        mark_must(board, asking, line, set, must, marks)?;
     }
     Ok(())
 }

@@ -54,7 +54,7 @@ fn times_by_choice(
 }
 
 // Beside the conflicts of goals, of activities and of links that the choice leaves, so many at least: how often timelines are past their
-// limits, and what is wrong with states by what comes. If more than so many are known, the rest is not worked out.
+// limits, and what is wrong with states by what comes. Once more than `most` are known, the rest is not worked out.
 fn others_by_choice(
     alloc: Global,
     board: &Board,
@@ -199,8 +199,8 @@ fn bound_of(
     }
 }
 
-/// For each of these moves, which choose alternatives of a root, a number of conflicts that it leaves at least, known without making it. No
-/// clause says how near these come: of other moves the number is 0. An error is want of memory.
+/// For each of these moves a number of conflicts that it leaves at least, known without making it. It is worked out if the move chooses an
+/// alternative of a root, and 0 if not. No clause says how near these come. An error is want of memory.
 pub fn least_of_choices(
     alloc: Global,
     board: &Board,

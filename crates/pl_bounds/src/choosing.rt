@@ -37,7 +37,7 @@ fn bare(alloc: Global, s: &PlanState, root: &Activity) -> Result<PlanState, Allo
     })
 }
 
-/// The same once an alternative of the root is chosen: the plan holds the root and a child for each slot.
+/// This plan once an alternative of the root is chosen: it holds the root and a child for each slot.
 pub(crate) fn chosen_alone(
     alloc: Global,
     s: &PlanState,

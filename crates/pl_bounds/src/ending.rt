@@ -66,7 +66,7 @@ fn look_at_end(
     }
 }
 
-/// The same of each of them.
+/// Looks at capacities at the last moments of all uses that are asked for.
 pub(crate) fn look_at_ends(
     alloc: Global,
     board: &Board,

@@ -6,7 +6,8 @@ ghost use Rattle.pl_bounds.specs.Marks.{AreMarks, Stands, count_of_states};
 
 use std::alloc::AllocError;
 
-/// Whether a conflict tells of a step, or else of a needed state; the activity that it tells of; and the place of the reservation.
+/// A conflict of states: whether it is a step that is not allowed or else a state that is needed, of which activity, and the place of the
+/// reservation.
 #[derive(Clone, Copy)]
 pub(crate) struct Mark {
     pub(crate) is_step: bool,

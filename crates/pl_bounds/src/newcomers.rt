@@ -19,7 +19,8 @@ use std::alloc::{AllocError, Global};
 
 // ---- states that are needed
 
-// Whether the timeline has another state at a moment at which this one is needed, which hangs neither on what goes nor on what comes.
+// Whether the timeline has another state at this moment, at which this one is needed, and whether that other state hangs neither on what goes
+// nor on what comes.
 fn is_unmet_at(board: &Board, asking: &Asking, line: u32, must: &Must, at: u32) -> bool
     requires unspoiled { board.now.spoiled ≡ false }
     requires comes { Has must.now (musts_asked line asking.now.coming.items) }
@@ -44,7 +45,7 @@ fn is_unmet_at(board: &Board, asking: &Asking, line: u32, must: &Must, at: u32) 
     hangs_on_none(board, asking.coming.as_slice(), &seen)
 }
 
-// The same at the last moment of its time, at the first, or in the middle.
+// The same at the last moment of the need, at the first, or in the middle.
 fn is_unmet(board: &Board, asking: &Asking, line: u32, must: &Must) -> bool
     requires unspoiled { board.now.spoiled ≡ false }
     requires comes { Has must.now (musts_asked line asking.now.coming.items) }

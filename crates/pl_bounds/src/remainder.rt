@@ -55,7 +55,7 @@ fn kinds_of(alloc: Global, all: &[Activity]) -> Result<Vec<u32>, AllocError>
     Ok(kinds)
 }
 
-/// What is wrong with goals and other activities, and each child that lacks an alternative of its own.
+/// How much is wrong with goals and with other activities, and how many children lack an alternative of their own.
 pub(crate) fn left_by_choice(
     alloc: Global,
     board: &Board,
@@ -74,12 +74,12 @@ pub(crate) fn left_by_choice(
     let s = board.state();
     let ids = ids_of(alloc, placed)?;
     let others = count_elsewhere(board.conflicts(), ids.as_slice());
-    // The root itself has an alternative.
+    // The root's kind has alternatives too, but one of them is chosen now.
     let lacking = count_lacking(s, placed).saturating_sub(1);
     Ok(others.saturating_add(lacking))
 }
 
-/// The conflicts of links that it does not touch.
+/// How many conflicts of links and orders stand that the choice does not touch.
 pub(crate) fn left_alone_by_choice(
     alloc: Global,
     board: &Board,

@@ -13,7 +13,7 @@ use crate::known::{Known, known_of};
 use crate::outside::Outside;
 use crate::sorting::{Addition, additions_of};
 use crate::standing::Standing;
-use crate::worsening::widen;
+use crate::worsening::{look_where_past, widen};
 use pl_board::Board;
 use pl_moves::goes_on;
 use pl_plan::RepairMove;
@@ -26,7 +26,8 @@ pub(crate) struct Run {
     pub(crate) additions: Vec<Addition>,
 }
 
-// Adds the limits that what comes may pass, if the move adds a root. For the many shifts of a choice that would cost more than it saves.
+// Has the limits looked at more closely, for what the move changes. An addition adds the limits that it may pass; for the many shifts of a
+// choice that would cost more than it saves. For any other move only the effects that go are looked at.
 fn widen_for(
     alloc: Global,
     board: &Board,
@@ -40,11 +41,10 @@ fn widen_for(
     ensures of_plan { OnOk result (All (IsOutsideOf board.now.state) past.new.items) }
     ensures different { OnOk result (AreDifferent past.new.items) }
 {
-    if !matches!(mv, RepairMove::Add { .. }) {
-        return Ok(());
+    match mv {
+        RepairMove::Add { .. } => widen(alloc, board, asking.coming.as_slice(), past),
+        _ => look_where_past(alloc, board, asking.going.as_slice(), past),
     }
-    widen(alloc, board, asking.coming.as_slice(), past)?;
-    Ok(())
 }
 
 // What is added at each limit that is looked at.

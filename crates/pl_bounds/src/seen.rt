@@ -50,7 +50,7 @@ pub(crate) fn seen_at(board: &Board, line: u32, at: u32) -> Option<Seen>
     Some(Seen { line, at, state })
 }
 
-// Whether the state at a moment is another, or the moment lies behind.
+// Whether a moment is later than the one that was seen, or the timeline has another state there. Of the past nothing is known.
 fn differs_at(board: &Board, seen: &Seen, at: u32) -> bool
     requires unspoiled { board.now.spoiled ≡ false }
     requires seen { IsSeen board.now.state seen.now }

@@ -6,7 +6,7 @@ ghost use Rattle.pl_bounds.specs.Steps.{moment_along, is_counted, step_by, step_
 
 use crate::outside::{Outside, Side};
 
-/// So much later or earlier.
+/// A move in time: what stood at `from` then stands at `to`.
 #[derive(Clone, Copy)]
 pub(crate) struct Way {
     pub(crate) from: u32,

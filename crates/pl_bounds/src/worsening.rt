@@ -1,4 +1,4 @@
-//! Limits that timelines may come past by what a move places.
+//! Limits that timelines may come past by what a move places, or stay past though something goes.
 ghost use Rattle.std.specs.Prelude.{◌≡◌, false, All, OnOk};
 ghost use Rattle.pl_bounds.specs.Sides.{IsOutsideOf, AreDifferent};
 
@@ -73,6 +73,47 @@ pub(crate) fn widen(
 {
     for demand in demands {
         widen_by(alloc, board, demand, past)?;
+    }
+    Ok(())
+}
+
+// Looks also where a level stays past its limit once a demand is gone: where it is past the limit by more than the demand's amount.
+fn look_without(
+    alloc: Global,
+    board: &Board,
+    demand: &Demand,
+    past: &mut Vec<Outside>,
+) -> Result<(), AllocError>
+    requires unspoiled { board.now.spoiled ≡ false }
+    requires of_plan { All (IsOutsideOf board.now.state) past.old.items }
+    requires different { AreDifferent past.old.items }
+    ensures of_plan { OnOk result (All (IsOutsideOf board.now.state) past.new.items) }
+    ensures different { OnOk result (AreDifferent past.new.items) }
+{
+    match &demand.asked {
+        Asked::Effect(e) => {
+            let less = 0_i64.saturating_sub(e.delta);
+            widen_at(alloc, board, further(less), demand.line, less, past)
+        }
+        _ => Ok(()),
+    }
+}
+
+/// Looks also where the levels that are looked at stay past their limits once some demands are gone.
+pub(crate) fn look_where_past(
+    alloc: Global,
+    board: &Board,
+    demands: &[Demand],
+    past: &mut Vec<Outside>,
+) -> Result<(), AllocError>
+    requires unspoiled { board.now.spoiled ≡ false }
+    requires of_plan { All (IsOutsideOf board.now.state) past.old.items }
+    requires different { AreDifferent past.old.items }
+    ensures of_plan { OnOk result (All (IsOutsideOf board.now.state) past.new.items) }
+    ensures different { OnOk result (AreDifferent past.new.items) }
+{
+    for demand in demands {
+        look_without(alloc, board, demand, past)?;
     }
     Ok(())
 }

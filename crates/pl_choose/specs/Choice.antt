@@ -9,7 +9,7 @@ use Rattle.pl_choose.specs.declared.purpose.Purpose.{Purpose}
 use Rattle.pl_choose.specs.Picked.{IsPicked}
 use Rattle.pl_choose.specs.Picks.{fewest}
 
--- a number of conflicts is below this one, if it is given
+-- whether so many conflicts are below this number; any are, if no number is given
 abbrev pub is_below : Option ℕ → ℕ → Bool
 is_below None left = true
 is_below (Some fewer) left = nat_lt left fewer

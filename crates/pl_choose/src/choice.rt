@@ -81,7 +81,7 @@ fn pick_of_hopes(
     pick_of_stages(alloc, board, &stages, fewer, purpose)
 }
 
-/// The best of some moves, if it is found among those that are not known to leave more conflicts than stand.
+/// The best of some moves, if it is found among those that are not known to leave more conflicts than stand. Otherwise nothing is picked.
 pub(crate) fn pick_of_hopeful(
     alloc: Global,
     board: &mut Board,

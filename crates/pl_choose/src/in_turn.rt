@@ -114,7 +114,7 @@ fn try_each(
     Ok(progress)
 }
 
-// Whether a number of conflicts is below this one, if it is given.
+// Whether so many conflicts are below this number. Any are, if no number is given.
 fn is_below(left: usize, fewer: Option<usize>) -> bool
     ensures { result ≡ is_below fewer left }
 {

@@ -4,7 +4,7 @@ ghost use Rattle.std.specs.Prelude.{◌≡◌, true, OnOk, OnErr};
 use pl_board::Board;
 use std::alloc::AllocError;
 
-/// What was worked out over a board. Want of memory spoils the board.
+/// Hands on what was worked out over a board. If memory ran out, the board is spoiled.
 pub(crate) fn or_spoil<T>(
     board: &mut Board,
     outcome: Result<T, AllocError>,

@@ -128,12 +128,14 @@ kept_with u ms xs kept = record {
       omega (arith, one, other, kept.indexed v);
 }
 
-pub kept_more : (u : Must) (ms : List Must) (xs : List Started) → AreKept ms xs → AreKept ms (with_started (started u) xs)
-kept_more u ms xs kept = record {
+-- one that came among the starts alone goes again
+pub kept_undone : (u : Must) (ms : List Must) (xs : List Started) → AreKept ms xs → AreKept ms (without same_started (started u) (with_started (started u) xs))
+kept_undone u ms xs kept = record {
   sorted = kept.sorted;
   indexed = λ v.
-      let other = many_with same_started (is_before start_key (start_key (started u))) (started v) (started u) xs in
-      omega (arith, other, kept.indexed v);
+      let came = many_with same_started (is_before start_key (start_key (started u))) (started v) (started u) xs in
+      let went = many_without same_started exact_started (started v) (started u) (with_started (started u) xs) in
+      omega (arith, came, went, kept.indexed v);
 }
 
 pub kept_without : (u : Must) (ms : List Must) (xs : List Started) → AreKept ms xs → AreKept (without same_must u ms) (without same_started (started u) xs)
@@ -161,13 +163,17 @@ many_has same exact u (x ∷ xs) le = cases (same x u) refl le (many_has same ex
     cases true e l more = inl (exact x u e)
     cases false e l more = inr (more (omega (arith, l)))
 
+must_itself : (u : Must) → same_must u u ≡ true
+must_itself u = rw (eqb_itself u.from) (rw (eqb_itself u.to) (rw (eqb_itself u.id) (rw (eqb_itself u.index) (eqb_itself u.state))))
+
 pub kept_has : (u : Must) (ms : List Must) (xs : List Started) → AreKept ms xs → Has u ms → Has (started u) xs
-kept_has u ms xs kept has =
-    let itself : same_must u u ≡ true = rw (eqb_itself u.from) (rw (eqb_itself u.to) (rw (eqb_itself u.id) (rw (eqb_itself u.index) (eqb_itself u.state)))) in
-    many_has same_started exact_started (started u) xs (omega (arith, kept.indexed u, has_many same_must u ms itself has))
+kept_has u ms xs kept has = many_has same_started exact_started (started u) xs (omega (arith, kept.indexed u, has_many same_must u ms (must_itself u) has))
+
+pub kept_only : (u : Must) (ms : List Must) (xs : List Started) → AreKept ms xs → Has (started u) xs → Has u ms
+kept_only u ms xs kept has = many_has same_must exact_must u ms (omega (arith, kept.indexed u, has_many same_started (started u) xs (must_itself u) has))
 
 -- between the two places stands each that has moments of the window
-has_behind : {T : Type 0} (p : T → Bool) (x : T) (xs : List T) → p x ≡ false → Has x xs → Has x (back p xs)
+pub has_behind : {T : Type 0} (p : T → Bool) (x : T) (xs : List T) → p x ≡ false → Has x xs → Has x (back p xs)
 has_behind p x [] e has = has
 has_behind p x (y ∷ ys) e has = cases (p y) refl has (has_behind p x ys e)
   where
@@ -178,7 +184,7 @@ has_behind p x (y ∷ ys) e has = cases (p y) refl has (has_behind p x ys e)
     ]
     cases false f h more = h
 
-has_ahead : {T : Type 0} (p : T → Bool) (x : T) (xs : List T) → IsParted p xs → p x ≡ true → Has x xs → Has x (front p xs)
+pub has_ahead : {T : Type 0} (p : T → Bool) (x : T) (xs : List T) → IsParted p xs → p x ≡ true → Has x xs → Has x (front p xs)
 has_ahead p x [] parted e has = has
 has_ahead p x (y ∷ ys) parted e has = cases (p y) refl has (has_ahead p x ys parted.1 e)
   where
@@ -193,7 +199,7 @@ has_ahead p x (y ∷ ys) parted e has = cases (p y) refl has (has_ahead p x ys p
 before_moment : (s : Started) (a : ℕ) → s.must.from < a → is_before start_key (key_of a 0 0) s ≡ true
 before_moment s a lt = rw (lt-ltb s.must.from a lt) refl
 
-not_before_moment : (s : Started) (a : ℕ) → a ≤ s.must.from → is_before start_key (key_of a 0 0) s ≡ false
+pub not_before_moment : (s : Started) (a : ℕ) → a ≤ s.must.from → is_before start_key (key_of a 0 0) s ≡ false
 not_before_moment s a le = rw (le-ltb s.must.from a le) (cases (eqb s.must.from a) (eqb s.must.id 0))
   where
     cases : (b d : Bool) → (b && (ltb s.must.id 0 || (d && ltb s.must.index 0))) ≡ false

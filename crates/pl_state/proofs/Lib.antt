@@ -15,5 +15,6 @@ pub mod Sorting
 pub mod Parts
 pub mod Renewing
 pub mod Indexing
+pub mod Holding
 pub mod Apart
 pub mod Looking

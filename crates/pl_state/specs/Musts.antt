@@ -1,5 +1,5 @@
 -- Musts of a state, in order, and where they are broken.
-use Rattle.std.specs.Prelude.{ℕ, ◌-◌, ◌&&◌, ◌||◌, ◌==◌, not, nat_lt, max, min, Bool, List, [], ◌∷◌, ◌++◌}
+use Rattle.std.specs.Prelude.{ℕ, ◌-◌, ◌&&◌, ◌||◌, ◌==◌, not, nat_lt, nat_le, max, min, Bool, List, [], ◌∷◌, ◌++◌}
 use Rattle.pl_points.specs.declared.span.Span.{Span}
 use Rattle.pl_lists.specs.Lists.{front, back}
 use Rattle.pl_points.specs.Spans.{spans_of}
@@ -20,6 +20,10 @@ must_before u x = nat_lt x.id u.id || ((x.id == u.id) && nat_lt x.index u.index)
 
 abbrev pub must_key : Must → Key
 must_key x = key_of 0 x.id x.index
+
+-- whether the must needs its state at this moment
+abbrev pub holds_at : ℕ → Must → Bool
+holds_at t m = nat_le m.from t && nat_lt t m.to
 
 -- the musts with one more, in its place
 abbrev pub with_must : Must → List Must → List Must

@@ -1,11 +1,11 @@
-ghost use Rattle.std.specs.Prelude.{◌≡◌, ◌≤◌, ◌-◌, length, take, drop, ◌++◌, ◌==◌, true, not, max, min, [], OnOk, IfOk};
+ghost use Rattle.std.specs.Prelude.{◌≡◌, ◌↔◌, ◌≤◌, ◌-◌, length, take, drop, ◌++◌, ◌==◌, true, not, max, min, [], OnOk, IfOk};
 ghost use Rattle.pl_lists.specs.Lists.{back};
 ghost use Rattle.pl_points.specs.Spans.{spans_of};
 ghost use Rattle.pl_points.specs.Standing.{without};
 ghost use Rattle.pl_state.specs.Keys.{is_before, AreSorted, AreRising, Has, IsRun};
 ghost use Rattle.pl_state.specs.Sets.{AreInOrder, state_from};
 ghost use Rattle.pl_state.specs.declared.reservation.Must.{Must};
-ghost use Rattle.pl_state.specs.Musts.{must_key, same_must, with_must, broken_spans};
+ghost use Rattle.pl_state.specs.Musts.{must_key, same_must, with_must, holds_at, broken_spans};
 ghost use Rattle.pl_state.specs.Near.{touches};
 ghost use Rattle.pl_state.specs.Present.{group_at, broken_at};
 
@@ -138,8 +138,13 @@ impl Musts {
     {
         let place = self.items.count(Bound::Before(must.key()));
         self.starts.insert(must)?;
-        self.items.insert(place, must)?;
-        Ok(())
+        match self.items.insert(place, must) {
+            Ok(()) => Ok(()),
+            Err(failed) => {
+                self.starts.remove(must);
+                Err(failed)
+            }
+        }
     }
 
     /// Takes the first such must out.
@@ -165,6 +170,14 @@ impl Musts {
     {
         let keys = self.starts.touched(alloc, near)?;
         Ok(keys)
+    }
+
+    /// Those that need their states at the moment.
+    pub(crate) fn at(&self, alloc: Global, t: u32) -> Result<Vec<Must>, AllocError>
+        ensures { IfOk result (λ v. (m : Must) → Has m v.items ↔ (Has m self.now × (holds_at t m ≡ true))) }
+    {
+        let musts = self.starts.at(alloc, t)?;
+        Ok(musts)
     }
 }
 

@@ -1,5 +1,5 @@
 //! A sorted list in rows, so that an item that comes or goes moves no more than a row.
-ghost use Rattle.std.specs.Prelude.{◌≡◌, ◌<◌, ◌≤◌, ◌+◌, ◌-◌, ◌^◌, ◌++◌, ◌∷◌, [], suc, length, take, drop, slice_index_or, OnOk, OnErr, IfOk, IfSome};
+ghost use Rattle.std.specs.Prelude.{◌≡◌, ◌<◌, ◌≤◌, ◌+◌, ◌-◌, ◌^◌, ◌++◌, ◌∷◌, [], suc, length, take, drop, slice_index_or, OnOk, OnErr, IfOk, IfSome, MatchOption};
 ghost use Rattle.pl_lists.specs.Lists.{front, back};
 ghost use Rattle.pl_state.specs.Keys.{AreSorted};
 ghost use Rattle.pl_state.specs.Rows.{is_covered, last_passes, together, AreFilled, EndsAt};
@@ -200,7 +200,7 @@ impl<T: Keyed> Rows<T> {
 
     // The items of one row from the place on, if an item stands there.
     fn row_from(&self, from: usize) -> Option<&[T]>
-        ensures { IfSome result (λ v. v.now ≡ take (length v.now) (drop from self.now)) }
+        ensures { MatchOption result (drop from self.now ≡ []) (λ v. (0 < length v.now) × (v.now ≡ take (length v.now) (drop from self.now))) }
     {
         let mut skipped = from;
         for row in &self.rows {

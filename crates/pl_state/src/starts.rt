@@ -1,9 +1,9 @@
-ghost use Rattle.std.specs.Prelude.{◌≡◌, [], true, take, drop, OnOk, OnErr, IfOk};
+ghost use Rattle.std.specs.Prelude.{◌≡◌, ◌↔◌, [], true, take, drop, OnOk, OnErr, IfOk};
 ghost use Rattle.pl_points.specs.Standing.{without};
 ghost use Rattle.pl_state.specs.declared.reservation.Must.{Must};
 ghost use Rattle.pl_state.specs.Keys.{AreSorted, AreRising, Has};
-ghost use Rattle.pl_state.specs.Musts.{must_key};
-ghost use Rattle.pl_state.specs.Starts.{started, start_key, same_started, with_started};
+ghost use Rattle.pl_state.specs.Musts.{must_key, holds_at};
+ghost use Rattle.pl_state.specs.Starts.{started, start_key, same_started, with_started, holding_at};
 ghost use Rattle.pl_state.specs.Near.{touches, touched_keys};
 
 use crate::bound::Bound;
@@ -72,6 +72,26 @@ fn touched_keys(alloc: Global, near: Span, starts: &[Started]) -> Result<Vec<Key
         }
     }
     Ok(keys)
+}
+
+// Whether the must needs its state at the moment.
+fn holds_at(t: u32, must: Must) -> bool
+    ensures { result ≡ holds_at t must }
+{
+    must.from <= t && t < must.to
+}
+
+// Those that need their states at the moment.
+fn holding_at(alloc: Global, t: u32, starts: &[Started]) -> Result<Vec<Must>, AllocError>
+    ensures { IfOk result (λ v. v.items ≡ holding_at t starts.now) }
+{
+    let mut musts = Vec::new(alloc);
+    for start in starts {
+        if holds_at(t, start.must) {
+            musts.push(start.must)?;
+        }
+    }
+    Ok(musts)
 }
 
 impl Starts {
@@ -153,5 +173,21 @@ impl Starts {
         let mut keys = self.touched_in(alloc, near, first, end - first)?;
         keys.sort_unstable();
         Ok(keys)
+    }
+
+    /// The musts that need their states at the moment.
+    pub(crate) fn at(&self, alloc: Global, t: u32) -> Result<Vec<Must>, AllocError>
+        ensures { IfOk result (λ v. (m : Must) → Has m v.items ↔ (Has (started m) self.now × (holds_at t m ≡ true))) }
+    {
+        let begin = Key {
+            at: t.saturating_sub(self.longest),
+            id: 0,
+            index: 0,
+        };
+        let first = self.items.count(Bound::Before(begin));
+        let end = self.items.end_near(first, Bound::By(t));
+        let starts = self.items.part(alloc, first, end - first)?;
+        let musts = holding_at(alloc, t, &starts)?;
+        Ok(musts)
     }
 }

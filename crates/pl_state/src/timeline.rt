@@ -1,9 +1,10 @@
-ghost use Rattle.std.specs.Prelude.{◌≡◌, ◌<◌, ◌≤◌, true, false, [], OnOk, OnErr, IfOk, IsErr};
+ghost use Rattle.std.specs.Prelude.{◌≡◌, ◌↔◌, ◌<◌, ◌≤◌, true, false, [], OnOk, OnErr, IfOk, IsErr};
 ghost use Rattle.pl_points.specs.Standing.{without};
 ghost use Rattle.pl_state.specs.Sets.{setting_of, same_setting, with_set};
-ghost use Rattle.pl_state.specs.Musts.{must_of, same_must, with_must};
-ghost use Rattle.pl_state.specs.Keys.{AreSorted};
+ghost use Rattle.pl_state.specs.Musts.{must_of, same_must, with_must, holds_at};
+ghost use Rattle.pl_state.specs.Keys.{AreSorted, Has};
 ghost use Rattle.pl_state.specs.Sorted.{bad_key};
+ghost use Rattle.pl_state.specs.declared.reservation.Must.{Must};
 ghost use Rattle.pl_state.specs.Timelines.{AreChanges, state_at, broken_now, bad_now};
 ghost use Rattle.pl_state.specs.Keeping.{after, IsTimely};
 
@@ -241,6 +242,14 @@ impl StateTimeline {
         }
         let present = self.kept.present;
         state_of(&self.kept.sets, present.base, present.value, t)
+    }
+
+    /// The musts that need their states at a moment.
+    pub fn musts_at(&self, alloc: Global, t: u32) -> Result<Vec<Must>, AllocError>
+        ensures { IfOk result (λ v. (m : Must) → Has m v.items ↔ (Has m self.now.musts × (holds_at t m ≡ true))) }
+    {
+        let musts = self.kept.musts.at(alloc, t)?;
+        Ok(musts)
     }
 
     /// Where musts are broken, by (id, index, from).

@@ -1,5 +1,6 @@
 //! Tests of boards: worked rows of models, changes, and what is wrong and what is tried then.
 
+mod alternatives;
 mod attempts;
 pub mod boards;
 pub mod changes;

@@ -23,7 +23,7 @@ use Rattle.pl_semantics.specs.declared.plan_state.PlanState.{PlanState}
 use Rattle.pl_semantics.specs.PlanStates.{numbered, natural, of_found}
 use Rattle.pl_semantics.specs.Parts.{part_of, of_timelines}
 use Rattle.pl_semantics.specs.Owners.{owner_of}
-use Rattle.pl_semantics.specs.Demands.{demands_of, sets_of, since, told, use_at, level_at, state_at}
+use Rattle.pl_semantics.specs.Demands.{demands_of, sets_of, musts_of, since, told, use_at, level_at, state_at}
 use Rattle.pl_semantics.specs.Timelines.{outside, spans_ahead, unmet_must, bad_step, line_conflicts, line_conflicts_of, lines_of, timeline_conflicts}
 use Rattle.pl_semantics.proofs.Lines.{by_line}
 use Rattle.pl_detect.specs.Fresh.{states_of}
@@ -132,6 +132,12 @@ module _ (s : PlanState) (lines : List Line) (are : AreLinesOf s lines) (line : 
       let there = framed_there s lines are.framed line (States x) here in
       let fresh = state_sorted x there.0 rising here there.2 in
       ap (λ (z : states.Standing). states.state_at z t) fresh.2
+
+  pub musts_now : (x : states.Standing) → AreRising s.plan.activities → slice_get lines line ≡ Some (States x) → x.musts ≡ musts_of line (demands_of s)
+  musts_now x rising here =
+      let there = framed_there s lines are.framed line (States x) here in
+      let fresh = state_sorted x there.0 rising here there.2 in
+      ap (λ (z : states.Standing). z.musts) fresh.2
 
   -- ---- what is wrong
 

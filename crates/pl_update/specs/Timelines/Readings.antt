@@ -1,7 +1,8 @@
 -- What timelines come to at a moment.
-use Rattle.std.specs.Prelude.{◌≡◌, ℕ, ◌≤◌, ◌<◌, false, ℤ, pos, Option, Some}
+use Rattle.std.specs.Prelude.{◌≡◌, ℕ, ◌≤◌, ◌<◌, false, ℤ, pos, List, [], Option, Some}
 use Rattle.pl_capacity.specs.Uses.{used}
 use Rattle.pl_level.specs.Effects.{level}
+use Rattle.pl_state.specs.declared.reservation.Must.{Must}
 use Rattle.pl_state.specs.Timelines.{state_at}
 use Rattle.pl_update.specs.declared.timelines.line.Line.{Line}
 use Rattle.pl_update.specs.declared.timelines.line.Line.TheVariants.{Capacity, Level, States}
@@ -38,3 +39,8 @@ level_of t _ = pos 0
 abbrev pub state_of : ℕ → Option Line → ℕ
 state_of t (Some (States x)) = state_at x t
 state_of t _ = 0
+
+-- the musts that stand
+abbrev pub musts_standing : Option Line → List Must
+musts_standing (Some (States x)) = x.musts
+musts_standing _ = []

@@ -11,7 +11,7 @@ use pl_plan::Activity;
 use pl_semantics::PlanState;
 
 // Whether those that come have the ids that go, in the same order.
-fn come_again(gone: &[u32], placed: &[Activity]) -> bool
+fn have_the_same_ids(gone: &[u32], placed: &[Activity]) -> bool
     ensures { Decides result (gone.now ≡ map id_of placed.now) }
 {
     if placed.len() != gone.len() {
@@ -76,7 +76,7 @@ fn is_live_elsewhere(s: &PlanState, a: &Activity) -> bool
 pub(crate) fn is_shift(s: &PlanState, gone: &[u32], placed: &[Activity]) -> bool
     ensures { Decides result (IsShift s.now.plan.activities gone.now placed.now) }
 {
-    if !come_again(gone, placed) {
+    if !have_the_same_ids(gone, placed) {
         return false;
     }
     for a in placed {

@@ -1,12 +1,17 @@
-//! What timelines come to at a moment, and how long a level stays between two bounds.
-ghost use Rattle.std.specs.Prelude.{◌≡◌, ◌<◌, ◌≤◌, ℕ, true, false, slice_get};
+//! What timelines come to and need at a moment, and how long a level stays between two bounds.
+ghost use Rattle.std.specs.Prelude.{◌≡◌, ◌↔◌, ◌<◌, ◌≤◌, ℕ, true, false, slice_get, IfOk};
 ghost use Rattle.pl_points.specs.Sums.{IsSmall};
 ghost use Rattle.pl_points.specs.Points.{is_out};
-ghost use Rattle.pl_update.specs.Timelines.Readings.{IsCapacityAt, IsLevelAt, IsLevelIn, AreStatesAt, used_of, level_of, state_of};
+ghost use Rattle.pl_state.specs.declared.reservation.Must.{Must};
+ghost use Rattle.pl_state.specs.Keys.{Has};
+ghost use Rattle.pl_state.specs.Musts.{holds_at};
+ghost use Rattle.pl_update.specs.Timelines.Readings.{IsCapacityAt, IsLevelAt, IsLevelIn, AreStatesAt, used_of, level_of, state_of, musts_standing};
 
 use crate::timelines::line::Line;
 use crate::timelines::lines::Lines;
 use pl_points::{Quiet, Span, Steps};
+use pl_state::Must;
+use std::alloc::{AllocError, Global};
 
 impl Lines {
     /// What is in use of a capacity.
@@ -56,6 +61,17 @@ impl Lines {
     {
         match &self.all[line as usize] {
             Line::States(states) => states.at(t),
+            _ => unreachable!(),
+        }
+    }
+
+    /// The musts that need their states at a moment.
+    pub fn musts_at(&self, alloc: Global, line: u32, t: u32) -> Result<Vec<Must>, AllocError>
+        requires { AreStatesAt t (slice_get self.now line) }
+        ensures { IfOk result (λ v. (m : Must) → Has m v.items ↔ (Has m (musts_standing (slice_get self.now line)) × (holds_at t m ≡ true))) }
+    {
+        match &self.all[line as usize] {
+            Line::States(states) => states.musts_at(alloc, t),
             _ => unreachable!(),
         }
     }

@@ -60,7 +60,7 @@ fn at(rt: &impl Abort, timeline: &StateTimeline, moment: u32, t: u32) -> u32
     timeline.at(t)
 }
 
-// What a call answers: a state, what is wrong, or a change.
+// What a call answers: a state, what is wrong, how many musts need their states at a moment, or a change.
 fn answer(
     rt: &impl Abort,
     alloc: Global,
@@ -77,6 +77,7 @@ fn answer(
     match word(&mut rest) {
         "at" => format!(in alloc; "{}", at(rt, timeline, moment, number(&mut rest))),
         "wrong" => format!(in alloc; "{:?} {:?}", timeline.broken_musts(), timeline.bad_steps()),
+        "needed" => format!(in alloc; "{}", timeline.musts_at(alloc, number(&mut rest))?.len()),
         name => {
             let change = ask(rt, timeline, asked(name, &mut rest))?;
             format!(in alloc; "{:?}", change.copy(alloc)?)
@@ -122,6 +123,10 @@ fn two_sets_at_one_moment(rt: HostRuntime) {
 
 // A must from 20 up to 40 whose state comes at 25.
 const LATE: &str = "need 20 40 1
+needed 19 = 0
+needed 20 = 1
+needed 39 = 1
+needed 40 = 0
 put 25 2 1
 wrong = [BrokenMust { id: 5, index: 1, from: 20, to: 25 }] []";
 

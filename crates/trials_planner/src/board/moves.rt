@@ -1,16 +1,19 @@
 //! What is asked of moves: whether they are refused, which are tried, and what they leave.
+ghost use Rattle.std.specs.Prelude.{All, IfOk};
+ghost use Rattle.pl_moves.specs.Runs.{CanBeMade};
+
 use crate::asserting::is_printed;
 use crate::board::changes::{can_make, can_move};
 use crate::board::reading::{conflict, repair};
 use crate::board::values::are_conflicts;
 use crate::reading::{sides, word};
 use pl_board::Board;
-use pl_bounds::least_of_each;
+use pl_bounds::{least_of_choices, least_of_each};
 use pl_cand::candidates;
 use pl_moves::{attempt, is_legal, legal, make};
 use pl_plan::RepairMove;
 use pl_points::{Quiet, Steps};
-use std::alloc::Global;
+use std::alloc::{AllocError, Global};
 
 /// Whether a move is refused so.
 pub fn is_refused(alloc: Global, board: &Board, row: &str) -> Option<bool> {
@@ -57,6 +60,40 @@ pub fn is_known_to_leave(alloc: Global, board: &Board, row: &str) -> Option<bool
     }
     let found = least_of_each(alloc, board, &[mv]).ok()?;
     is_printed(format!(in alloc; "{found:?}"), wanted)
+}
+
+/// Those of the moves of a text that are legal.
+fn legal_moves(alloc: Global, board: &Board, text: &str) -> Result<Vec<RepairMove>, AllocError>
+    ensures { IfOk result (λ moves. All (CanBeMade board.now.state) moves.items) }
+{
+    let mut moves = Vec::new(alloc);
+    'lines: for line in text.split(';') {
+        let mv = repair(line);
+        if can_make(board, &mv) {
+            moves.push(mv)?;
+        }
+    }
+    Ok(moves)
+}
+
+/// Whether legal moves are known as choices of alternatives to leave so many conflicts at least.
+fn leave_at_least(alloc: Global, board: &Board, moves: &[RepairMove], wanted: &str) -> Option<bool>
+    requires { All (CanBeMade board.now.state) moves.now }
+{
+    if board.spoiled() || board.next_id() > 3_999_999_000 {
+        return None;
+    }
+    let found = least_of_choices(alloc, board, moves).ok()?;
+    is_printed(format!(in alloc; "{found:?}"), wanted)
+}
+
+/// The same of the moves of a row.
+pub fn are_known_to_leave(alloc: Global, board: &Board, row: &str) -> Option<bool> {
+    let (lines, wanted) = sides(row);
+    match legal_moves(alloc, board, lines) {
+        Ok(moves) => leave_at_least(alloc, board, moves.as_slice(), wanted),
+        Err(_) => None,
+    }
 }
 
 /// Whether this comes of trying a legal move.

@@ -5,7 +5,9 @@ use crate::board::changes::change_all;
 use crate::board::counted::takes_so_many_steps;
 use crate::board::lookups::{has_partner, is_spread, is_tried_at};
 use crate::board::mending::is_mended;
-use crate::board::moves::{comes_of, is_known_to_leave, is_made, is_refused, is_tried_for};
+use crate::board::moves::{
+    are_known_to_leave, comes_of, is_known_to_leave, is_made, is_refused, is_tried_for,
+};
 use crate::board::plans::{is_due, is_evaluated, is_in_tree, is_said_of_copy};
 use crate::board::values::{are_conflicts, has_values};
 use crate::reading::sides;
@@ -28,6 +30,8 @@ pub enum Asked {
     Repairs,
     /// A legal move, and how many conflicts it is known to leave at least, alone in a list.
     Least,
+    /// Legal moves, and how many conflicts each is known as a choice to leave at least, in a list.
+    LeastOfChoices,
     /// How many conflicts are enough with a legal move, what comes of trying it with the next id then, and all that is wrong then.
     Attempt,
     /// A legal move, and all that is wrong once it is made.
@@ -73,6 +77,7 @@ fn is_so(alloc: Global, board: &mut Board, asked: Asked, rest: &str) -> Option<b
         Asked::Refusal => is_refused(alloc, board, rest),
         Asked::Repairs => is_tried_for(alloc, board, rest),
         Asked::Least => is_known_to_leave(alloc, board, rest),
+        Asked::LeastOfChoices => are_known_to_leave(alloc, board, rest),
         Asked::Attempt => comes_of(alloc, board, rest),
         Asked::Made => is_made(alloc, board, rest),
         Asked::Mended => is_mended(alloc, board, rest),

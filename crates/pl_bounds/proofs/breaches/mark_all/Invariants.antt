@@ -2,5 +2,5 @@
 use Rattle.pl_bounds.specs.Seen.{AreMarksThen}
 use Rattle.pl_bounds.proofs.breaches.mark_all.Given as goal
 
-abbrev pub invariant-loop-a : goal.invariant-loop-a
-invariant-loop-a l = AreMarksThen l.board.state l.asking l.initial.marks.items → AreMarksThen l.board.state l.asking l.marks.items
+abbrev pub invariant-loop-must : goal.invariant-loop-must
+invariant-loop-must l = AreMarksThen l.board.state l.asking l.initial.marks.items → AreMarksThen l.board.state l.asking l.marks.items

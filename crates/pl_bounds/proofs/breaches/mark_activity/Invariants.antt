@@ -1,6 +1,0 @@
--- what was marked is right, and stays so
-use Rattle.pl_bounds.specs.Seen.{AreMarksThen}
-use Rattle.pl_bounds.proofs.breaches.mark_activity.Given as goal
-
-abbrev pub invariant-loop-index : goal.invariant-loop-index
-invariant-loop-index l = AreMarksThen l.board.state l.asking l.initial.marks.items → AreMarksThen l.board.state l.asking l.marks.items
