@@ -296,14 +296,14 @@ module _ (old mid new : PlanPass) (held held2 : Held) (turn : Turn old mid new h
 
   planned_at_once : (g g2 : Lcg) → MayRepair held → IsHistory held.plan.machine.model held.plan.machine.log held.plan.machine.world → (before : List Noted) → IsHere before → IsPrefix (seen_of old) before
       → (v : Event) (r : Reply) → RepairsAtOnce g g2 held.plan.machine.world v r → IsPlanned g (low_of old) before v r g2
-  planned_at_once g g2 may history before is on (event.Fix k m) r repairs =
-      as_seen (sight_here g (Some (record { conflict = k; mv = m })) may history before is on repairs.0) (λ whole. repairs.1) repairs.2
-  planned_at_once g g2 may history before is on event.Rest r repairs = behind None (sight_here g None may history before is on repairs.0) (inl refl) repairs.1
-  planned_at_once g g2 may history before is on (event.Opened o) r repairs = absurd repairs
-  planned_at_once g g2 may history before is on (event.Input line) r repairs = absurd repairs
-  planned_at_once g g2 may history before is on (event.Commit h) r repairs = absurd repairs
-  planned_at_once g g2 may history before is on event.Dispatch r repairs = absurd repairs
-  planned_at_once g g2 may history before is on event.Close r repairs = absurd repairs
+  planned_at_once g g2 may history before is begins (event.Fix k m) r repairs =
+      as_seen (sight_here g (Some (record { conflict = k; mv = m })) may history before is begins repairs.0) (λ whole. repairs.1) repairs.2
+  planned_at_once g g2 may history before is begins event.Rest r repairs = behind None (sight_here g None may history before is begins repairs.0) (inl refl) repairs.1
+  planned_at_once g g2 may history before is begins (event.Opened o) r repairs = absurd repairs
+  planned_at_once g g2 may history before is begins (event.Input line) r repairs = absurd repairs
+  planned_at_once g g2 may history before is begins (event.Commit h) r repairs = absurd repairs
+  planned_at_once g g2 may history before is begins event.Dispatch r repairs = absurd repairs
+  planned_at_once g g2 may history before is begins event.Close r repairs = absurd repairs
 
   -- memory was wanting: the chooser was asked once at most
   asked_once : (g g2 : Lcg) → MayRepair held → KeepsLog held held2 → (g2 ≡ g) ⊎ (g2 ≡ seeded_after g) → IsAskedAtMost (Planner g) (low_of old) (seen_of new) (Planner g2)
