@@ -23,7 +23,7 @@ use Rattle.pl_acts.specs.declared.look.Looked.{Looked}
 use Rattle.pl_acts.specs.declared.look.Looked.TheVariants as looked
 use Rattle.pl_acts.specs.Roles.{IsInputOf}
 use Rattle.pl_acts.specs.Signing.{Written}
-use Rattle.pl_acts.specs.Inside.{signs_in, items_in, IsSound, Logs, KeepsLog, FeedsIn, Wants, Executes, ExecutesIn, RestsAtOnce, LooksIn, Settles, SettlesIn}
+use Rattle.pl_acts.specs.Inside.{signs_in, items_in, IsSound, Logs, KeepsLog, FeedsIn, Wants, Executes, ExecutesIn, RestsAtOnce, LooksIn, Settles, SettlesIn, RepairsAtOnce, RepairsIn, LooksOrRepairs}
 use Rattle.pl_acts.specs.Seen.{IsPlan}
 use Rattle.pl_acts.proofs.Items.{model_in_items, model_in_prefix, opening_in_items, opening_in_prefix, items_push, items_stopped}
 
@@ -95,6 +95,21 @@ grows_settled a g g2 p seen old new (Err stop.Spoiled) found sound acts = grows_
 grows_settled a g g2 p seen old new (Err stop.NotNow) found sound acts = absurd acts
 grows_settled a g g2 p seen old new (Err stop.LogFull) found sound acts = grows_same seen old new found (same_held old new acts.3)
 grows_settled a g g2 p seen old new (Err stop.Memory) found sound acts = grows_same seen old new found (wants_keeps old new acts.0)
+
+pub grows_repaired : (a : Author) (g g2 : Lcg) (seen : List Noted) (old new : Held) (r : Result Looked Stop) → seen ≡ items_in old → IsSound old.plan → RepairsIn a g old r g2 new → IsSameOrOneMore seen (items_in new)
+grows_repaired a g g2 seen old new (Ok (looked.Settled (acted.Did n))) found sound repairs = grows_more (λ w e. RepairsAtOnce g g2 w e.event e.reply) a seen old new n found sound repairs
+grows_repaired a g g2 seen old new (Ok (looked.Settled acted.Nothing)) found sound repairs = absurd repairs
+grows_repaired a g g2 seen old new (Ok (looked.Settled acted.Finished)) found sound repairs = absurd repairs
+grows_repaired a g g2 seen old new (Ok (looked.Settled acted.Stopped)) found sound repairs = absurd repairs
+grows_repaired a g g2 seen old new (Ok (looked.Open draft)) found sound repairs = absurd repairs
+grows_repaired a g g2 seen old new (Err stop.Spoiled) found sound repairs = absurd repairs
+grows_repaired a g g2 seen old new (Err stop.NotNow) found sound repairs = absurd repairs
+grows_repaired a g g2 seen old new (Err stop.LogFull) found sound repairs = absurd repairs
+grows_repaired a g g2 seen old new (Err stop.Memory) found sound repairs = grows_same seen old new found (wants_keeps old new repairs.0)
+
+pub grows_either : (a : Author) (g g2 : Lcg) (seen : List Noted) (old new : Held) (r : Result Looked Stop) → seen ≡ items_in old → IsSound old.plan → LooksOrRepairs a g old r g2 new → IsSameOrOneMore seen (items_in new)
+grows_either a g g2 seen old new r found sound (inl looks) = grows_looked a seen old new r found sound looks.0
+grows_either a g g2 seen old new r found sound (inr repairs) = grows_repaired a g g2 seen old new r found sound repairs.1
 
 -- the plan that was stopped, by whoever stopped it first
 pub stopped_as : (old new : Held) (s : Option Author) → new.plan ≡ old.plan → new.stopper ≡ s → items_in new ≡ items_of old.plan.machine.model old.plan.machine.log (record (signs_in old) { stopper = s })

@@ -5,6 +5,7 @@ pub mod Signing
 pub mod Answering
 pub mod Finding
 pub mod Settled
+pub mod AtOnce
 pub mod Growing
 pub mod OwnEntries
 pub mod EntryKinds

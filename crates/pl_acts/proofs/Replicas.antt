@@ -42,7 +42,7 @@ use Rattle.pl_acts.proofs.Items.{model_in_items, model_in_prefix, entries_in_ite
 goes_on : (old new r : State) → new.model ≡ old.model → IsPrefix old.log new.log → IsReplica old r → IsReplica new r
 goes_on old new r model on is = record { unspoiled = is.unspoiled; model = is.model ∙ sym model; begins = prefix_trans r.log old.log new.log is.begins on }
 
-all_go_on : (old new : State) (rs : List State) → new.model ≡ old.model → IsPrefix old.log new.log → All (IsReplica old) rs → All (IsReplica new) rs
+pub all_go_on : (old new : State) (rs : List State) → new.model ≡ old.model → IsPrefix old.log new.log → All (IsReplica old) rs → All (IsReplica new) rs
 all_go_on old new rs model on all = λ k d lt. goes_on old new (get_or rs k d) model on (all k d lt)
 
 took_on : (old new : State) (e : Event) (r : Reply) (rs : List State) → Takes old e r new → All (IsReplica old) rs → All (IsReplica new) rs

@@ -28,10 +28,10 @@ use Rattle.pl_acts.specs.Inside.{Settles, SettlesIn}
 use Rattle.pl_acts.proofs.Answering.{with_plan, took_one, same_plan, same_held, spoils_held, wants_held}
 
 -- what the seeded chooser proposes, and its generator behind it
-abbrev seeded : Picks Lcg
+abbrev pub seeded : Picks Lcg
 seeded g w p g2 = (p ≡ seeded_pick w g) × (g2 ≡ seeded_after g)
 
-abbrev words_drawn : Drawn Lcg
+abbrev pub words_drawn : Drawn Lcg
 words_drawn g g2 = g2 ≡ seeded_after g
 
 -- what a world's entry is to be

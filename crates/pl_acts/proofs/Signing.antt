@@ -42,7 +42,7 @@ tied_more by old m s e tied log more =
     let each = tied.each in
     record { some = omega (arith, opening, some); each = omega (arith, opening, authors, long, each) }
 
-tied_same : (old : Written) (m : State) (s : Signed) → IsTied old → m.log ≡ old.machine.log → s ≡ old.signs → IsTied (record { machine = m; signs = s })
+pub tied_same : (old : Written) (m : State) (s : Signed) → IsTied old → m.log ≡ old.machine.log → s ≡ old.signs → IsTied (record { machine = m; signs = s })
 tied_same old m s tied log same =
     let opening : s.opening ≡ old.signs.opening = ap (λ (x : Signed). x.opening) same in
     let authors : length s.authors ≡ length old.signs.authors = ap (λ (x : Signed). length x.authors) same in

@@ -167,3 +167,33 @@ SettlesIn by g p old (Err stop.Spoiled) g2 new = (old.plan.machine.spoiled ≡ t
 SettlesIn by g p old (Err stop.NotNow) g2 new = ⊥
 SettlesIn by g p old (Err stop.LogFull) g2 new = IsGoing old × (is_repairing old.plan.machine.world ≡ true) × IsFull old.plan.machine × (new ≡ old) × (g2 ≡ g)
 SettlesIn by g p old (Err stop.Memory) g2 new = Wants old new × ((g2 ≡ g) ⊎ ((p ≡ None) × (is_repairing old.plan.machine.world ≡ true) × (reason_of old.plan.machine.world ≡ None) × (g2 ≡ seeded_after g)))
+
+-- ---- a planner repairs in the turn in which it looks
+
+-- Repair goes on in an unspoiled plan that was not stopped, nothing but candidates can tell whether it is to rest, and one more entry may follow.
+pub record MayRepair (h : Held) : Type 0 where
+  pub going : IsGoing h
+  pub asks : AsksIn h.plan.machine.world
+  pub room : HasRoom h.plan.machine
+
+-- What the chooser proposes is made. Where it proposes nothing repair rests.
+abbrev pub RepairsAtOnce : Lcg → Lcg → World → Event → Reply → Type 0
+RepairsAtOnce g g2 w (event.Fix k m) answer = (seeded_pick w.state g ≡ Some (record { conflict = k; mv = m })) × (answer ≡ reply.Done) × (g2 ≡ seeded_after g)
+RepairsAtOnce g g2 w event.Rest answer = (seeded_pick w.state g ≡ None) × (g2 ≡ seeded_after g)
+RepairsAtOnce g g2 w _ answer = ⊥
+
+-- One entry is made. Memory may be wanting, and then the chooser was asked once at most.
+abbrev pub RepairsIn : Author → Lcg → Held → Result Looked Stop → Lcg → Held → Type 0
+RepairsIn by g old (Ok (looked.Settled (acted.Did number))) g2 new = Logs (λ w e. RepairsAtOnce g g2 w e.event e.reply) by old new number
+RepairsIn by g old (Ok (looked.Settled acted.Nothing)) g2 new = ⊥
+RepairsIn by g old (Ok (looked.Settled acted.Finished)) g2 new = ⊥
+RepairsIn by g old (Ok (looked.Settled acted.Stopped)) g2 new = ⊥
+RepairsIn by g old (Ok (looked.Open draft)) g2 new = ⊥
+RepairsIn by g old (Err stop.Spoiled) g2 new = ⊥
+RepairsIn by g old (Err stop.NotNow) g2 new = ⊥
+RepairsIn by g old (Err stop.LogFull) g2 new = ⊥
+RepairsIn by g old (Err stop.Memory) g2 new = Wants old new × ((g2 ≡ g) ⊎ (g2 ≡ seeded_after g))
+
+-- a look, or a repair in its place
+abbrev pub LooksOrRepairs : Author → Lcg → Held → Result Looked Stop → Lcg → Held → Type 0
+LooksOrRepairs by g old answer g2 new = (LooksIn by old answer new × (g2 ≡ g)) ⊎ (MayRepair old × RepairsIn by g old answer g2 new)

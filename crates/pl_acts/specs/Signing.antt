@@ -34,6 +34,12 @@ pub record IsWritten (replicas : List State) (w : Written) : Type 0 where
 abbrev pub TakesBack : Signed → Signed → Type 0
 TakesBack old new = (authors : List Author) (author : Author) → old.authors ≡ authors ++ author ∷ [] → new ≡ record old { authors = authors }
 
+-- the log and all marks are as they were
+pub record HasSameLog (old new : Written) : Type 0 where
+  pub log : new.machine.log ≡ old.machine.log
+  pub model : new.machine.model ≡ old.machine.model
+  pub signs : new.signs ≡ old.signs
+
 -- An event as this author's. Memory may be wanting for the mark alone, which changes nothing.
 abbrev pub SignedAnswers : Author → Written → Event → Result Reply Stop → Written → Type 0
 SignedAnswers by old e (Ok r) new = Answers old.machine e (Ok r) new.machine × (new.signs ≡ signed_on by old.signs)

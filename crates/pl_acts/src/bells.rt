@@ -2,6 +2,11 @@
 use crate::bell::Bell;
 use crate::busy::Busy;
 use std::sync::Wait;
+use std::sync::atomic::{AtomicBool, Ordering};
+use std::thread;
+
+// So often a planner looks whether the executive is done, before it goes on beside it.
+const LOOKS: u32 = 64;
 
 /// Who waits for something to do.
 #[derive(Clone, Copy, PartialEq, Eq)]
@@ -13,13 +18,14 @@ pub enum Listener {
     Anyone,
 }
 
-/// One bell for each who may wait.
+/// One bell for each who may wait, and whether the executive has something to do.
 #[derive(Drop)]
 pub struct Bells {
     planner: Bell,
     executive: Bell,
     feeder: Bell,
     anyone: Bell,
+    executive_is_due: AtomicBool,
 }
 
 impl Bells {
@@ -29,6 +35,7 @@ impl Bells {
             executive: Bell::new(),
             feeder: Bell::new(),
             anyone: Bell::new(),
+            executive_is_due: AtomicBool::new(false),
         }
     }
 
@@ -51,6 +58,23 @@ impl Bells {
         self.bell_of(listener).wait(rt, heard);
     }
 
+    /// Notes who has something to do. It is called inside a turn, so that the notes come in the order of the turns.
+    pub fn note(&self, busy: Busy) {
+        self.executive_is_due
+            .store(busy.executive, Ordering::SeqCst);
+    }
+
+    /// Lets a moment pass where the executive has something to do, which is quickly done: a planner that goes first in the meantime would
+    /// choose on a replica.
+    pub fn let_executive_go_first(&self) {
+        for _ in 0..LOOKS {
+            if !self.executive_is_due.load(Ordering::SeqCst) {
+                return;
+            }
+            thread::yield_now();
+        }
+    }
+
     fn ring_if<R: Wait>(&self, rt: &R, listener: Listener, woken: bool) {
         if woken {
             self.bell_of(listener).ring(rt);
@@ -62,8 +86,8 @@ impl Bells {
         let planner = !before.planner && behind.planner;
         let executive = !before.executive && behind.executive;
         let feeder = !before.feeder && behind.feeder;
-        self.ring_if(rt, Listener::Planner, planner);
         self.ring_if(rt, Listener::Executive, executive);
+        self.ring_if(rt, Listener::Planner, planner);
         self.ring_if(rt, Listener::Feeder, feeder);
         self.ring_if(rt, Listener::Anyone, planner || executive || feeder);
     }

@@ -13,9 +13,16 @@ pub struct Busy {
     pub feeder: bool,
 }
 
+impl Busy {
+    /// Whether the planners alone have something to do.
+    pub fn is_for_planners(self) -> bool {
+        self.planner && !self.executive && !self.feeder
+    }
+}
+
 impl Held {
     // Whether the workers have to find out that the plan goes no further.
-    fn is_over(&self) -> bool
+    pub(crate) fn is_over(&self) -> bool
         ensures over { result ≡ is_over self.now }
         ensures unspoiled { result ≡ false → self.now.plan.machine.spoiled ≡ false }
     {

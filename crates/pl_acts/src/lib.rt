@@ -16,6 +16,8 @@ mod look;
 mod looking;
 mod noted;
 mod part;
+mod planners;
+mod repairing;
 mod replicated;
 mod role;
 mod settling;

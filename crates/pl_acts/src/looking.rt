@@ -14,7 +14,7 @@ use pl_marks::Author;
 use std::alloc::Global;
 
 impl Held {
-    fn is_full(&self) -> bool
+    pub(crate) fn is_full(&self) -> bool
         ensures { result ≡ nat_le self.now.plan.machine.world.options.entries (length self.now.plan.machine.log) }
     {
         let machine = self.plan.get();

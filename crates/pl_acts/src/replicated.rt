@@ -8,9 +8,10 @@ ghost use Rattle.pl_machine.specs.Choices.{event_of};
 ghost use Rattle.pl_machine.specs.Repairs.{IsMoveOf};
 ghost use Rattle.pl_acts.specs.Replicas.{IsReplica, IsDraft};
 ghost use Rattle.pl_acts.specs.Items.{signed_on};
-ghost use Rattle.pl_acts.specs.Signing.{IsTied, TakesBack, SignedAnswers, RepairsSigned};
+ghost use Rattle.pl_acts.specs.Signing.{IsTied, TakesBack, HasSameLog, SignedAnswers, RepairsSigned};
 
 use crate::draft::Draft;
+use crate::planners::Planners;
 use pl_cand::{Chooser, Proposal};
 use pl_entry::Reply;
 use pl_machine::{Choice, Machine, Repaired, Stop};
@@ -24,6 +25,7 @@ pub struct Replicated {
     machine: Machine,
     marks: Marks,
     replicas: Vec<Machine>,
+    planners: Planners,
 }
 
 impl std::marker::Model for Replicated {
@@ -105,6 +107,7 @@ impl Replicated {
             machine,
             marks: Marks::new(alloc, opening),
             replicas: Vec::new(alloc),
+            planners: Planners::Nobody,
         }
     }
 
@@ -131,8 +134,27 @@ impl Replicated {
             machine,
             marks,
             replicas: _,
+            planners: _,
         } = self;
         (machine, marks)
+    }
+
+    /// Notes that this planner looks at the plan, and tells whether no other has.
+    pub(crate) fn is_only_planner(&mut self, by: Author) -> bool
+        ensures { self.new ≡ self.old }
+    {
+        self.planners = self.planners.with(by);
+        self.planners.is_one()
+    }
+
+    /// Lets a chooser draw the words of a choice. What it proposes is dropped.
+    #[tactic(auto, using(crate::proofs::AtOnce::proposed_keeps, crate::proofs::AtOnce::written_kept))]
+    pub(crate) fn draw<C: Chooser>(&mut self, chooser: &mut C)
+        requires { self.old.machine.spoiled ≡ false }
+        ensures keeps { HasSameLog self.old self.new }
+        ensures drawn { C.drawn chooser.old chooser.new }
+    {
+        self.machine.propose(chooser).ok();
     }
 
     /// Lends the replica that came back last, or a new one, with the entries that it has not made.

@@ -34,12 +34,12 @@ use Rattle.pl_acts.proofs.FullLogs.{in_world_on}
 use Rattle.pl_acts.proofs.Items.{in_world_of, stop_in_same, length_going}
 use Rattle.pl_acts.proofs.Replicas.{replica_of}
 use Rattle.pl_locked.specs.Plans.{PlanPass}
-use Rattle.pl_locked.specs.Turns.{TakesTurn, MakesNothing, low_of, Acts, Looks, Sees, CanSettle, Views, IsSettled, Settles, SettlesAs}
+use Rattle.pl_locked.specs.Turns.{TakesTurn, MakesNothing, low_of, Acts, Lends, Looks, Sees, CanSettle, Views, IsSettled, Settles, SettlesAs}
 
 -- ---- a view
 
-looked_here : (by : Author) (old new : PlanPass) (draft : Draft) → IsPrefix (seen_of old) (seen_of new) → Looks by old (Ok (looked.Open draft)) new → HasLooked (low_of old) (seen_of new)
-looked_here by old new draft on looks = record {
+looked_here : (old new : PlanPass) (draft : Draft) → IsPrefix (seen_of old) (seen_of new) → Lends old draft new → HasLooked (low_of old) (seen_of new)
+looked_here old new draft on looks = record {
   front = seen_of new;
   on = prefix_self (seen_of new);
   late = prefix_length (seen_of old) (seen_of new) on;
@@ -48,11 +48,10 @@ looked_here by old new draft on looks = record {
   room = looks.2;
 }
 
--- the chooser was asked on the replica
-pub copied : (by : Author) (old new : PlanPass) (g g2 : Lcg) (draft : Draft) (sight : Sight) → IsPrefix (seen_of old) (seen_of new) → Looks by old (Ok (looked.Open draft)) new → IsAsked g draft.replica.model (log_of draft) sight
-    → g2 ≡ seeded_after g → Views by (Planner g) old (Ok (view.Copy sight)) (Planner g2) new
+asked_on : (old new : PlanPass) (g g2 : Lcg) (draft : Draft) (sight : Sight) → IsPrefix (seen_of old) (seen_of new) → Lends old draft new → IsAsked g draft.replica.model (log_of draft) sight
+    → g2 ≡ seeded_after g → Sees (Planner g) old new sight (Planner g2)
 unfolding looked_here
-copied by old new g g2 draft sight on looks asked drew =
+asked_on old new g g2 draft sight on looks asked drew =
     let model = draft.replica.model in
     let log = log_of draft in
     let is : seen_of new ≡ items_of model log looks.3.signs = looks.3.is in
@@ -63,7 +62,7 @@ copied by old new g g2 draft sight on looks asked drew =
       drew = ap (λ (x : Lcg). Planner x) drew;
       nothing = looks.0;
       sees = record {
-        look = looked_here by old new draft on looks;
+        look = looked_here old new draft on looks;
         picks = in_world_of (λ w. sight.proposal ≡ seeded_pick w.state g) (seen_of new) model log looks.3.signs is legal asked.picks;
         legal = in_world_of (λ w. IsProposal w.state sight.proposal) (seen_of new) model log looks.3.signs is legal asked.legal;
       };
@@ -72,19 +71,28 @@ copied by old new g g2 draft sight on looks asked drew =
       replica = replica_of (seen_of new) model log looks.3.signs sight.replica is legal asked.replica;
     }
 
-pub view_stops : (by : Author) (old new : PlanPass) (g : Lcg) (s : Stop) → Looks by old (Err s) new → Views by (Planner g) old (Err s) (Planner g) new
-view_stops by old new g s looks = looks g
+-- the chooser was asked on the replica
+pub copied : (by : Author) (old new : PlanPass) (g g1 g2 : Lcg) (draft : Draft) (sight : Sight) → IsPrefix (seen_of old) (seen_of new) → Looks by g old (Ok (looked.Open draft)) g1 new → IsAsked g1 draft.replica.model (log_of draft) sight
+    → g2 ≡ seeded_after g1 → Views by (Planner g) old (Ok (view.Copy sight)) (Planner g2) new
+copied by old new g g1 g2 draft sight on looks asked drew =
+    let P : Lcg → Type 0 = λ x. Sees (Planner x) old new sight (Planner g2) in
+    subst P looks.1 (asked_on old new g1 g2 draft sight on looks.0 asked drew)
+
+pub view_stops : (by : Author) (old new : PlanPass) (g g2 : Lcg) (s : Stop) → Looks by g old (Err s) g2 new → Views by (Planner g) old (Err s) (Planner g2) new
+view_stops by old new g g2 s looks = looks
 
 -- memory was wanting before the chooser was asked, or for what it was asked
-ask_none : (by : Author) (old new : PlanPass) (g g2 : Lcg) (draft : Draft) → IsPrefix (seen_of old) (seen_of new) → Looks by old (Ok (looked.Open draft)) new → (g2 ≡ g) ⊎ (g2 ≡ seeded_after g) → IsAskedAtMost (Planner g) (low_of old) (seen_of new) (Planner g2)
-ask_none by old new g g2 draft on looks (inl same) = inl same
-ask_none by old new g g2 draft on looks (inr drew) = inr (inl (looked_here by old new draft on looks, drew))
+ask_none : (old new : PlanPass) (g g2 : Lcg) (draft : Draft) → IsPrefix (seen_of old) (seen_of new) → Lends old draft new → (g2 ≡ g) ⊎ (g2 ≡ seeded_after g) → IsAskedAtMost (Planner g) (low_of old) (seen_of new) (Planner g2)
+ask_none old new g g2 draft on looks (inl same) = inl same
+ask_none old new g g2 draft on looks (inr drew) = inr (inl (looked_here old new draft on looks, drew))
 
-pub ask_stops : (by : Author) (old new : PlanPass) (g g2 : Lcg) (draft : Draft) → IsPrefix (seen_of old) (seen_of new) → Looks by old (Ok (looked.Open draft)) new → (g2 ≡ g) ⊎ (g2 ≡ seeded_after g) → Views by (Planner g) old (Err stop.Memory) (Planner g2) new
-ask_stops by old new g g2 draft on looks once = (looks.0, ask_none by old new g g2 draft on looks once)
+pub ask_stops : (by : Author) (old new : PlanPass) (g g1 g2 : Lcg) (draft : Draft) → IsPrefix (seen_of old) (seen_of new) → Looks by g old (Ok (looked.Open draft)) g1 new → (g2 ≡ g1) ⊎ (g2 ≡ seeded_after g1) → Views by (Planner g) old (Err stop.Memory) (Planner g2) new
+ask_stops by old new g g1 g2 draft on looks once =
+    let P : Lcg → Type 0 = λ x. IsAskedAtMost (Planner x) (low_of old) (seen_of new) (Planner g2) in
+    (looks.0.0, subst P looks.1 (ask_none old new g1 g2 draft on looks.0 once))
 
-pub viewed : (by : Author) (old new : PlanPass) (g : Lcg) (a : Acted) → Looks by old (Ok (looked.Settled a)) new → Views by (Planner g) old (Ok (view.Settled a)) (Planner g) new
-viewed by old new g a looks = looks g
+pub viewed : (by : Author) (old new : PlanPass) (g g2 : Lcg) (a : Acted) → Looks by g old (Ok (looked.Settled a)) g2 new → Views by (Planner g) old (Ok (view.Settled a)) (Planner g2) new
+viewed by old new g g2 a looks = looks
 
 -- ---- a view, and what settles behind it
 

@@ -5,7 +5,7 @@ use Rattle.std.specs.Prelude.{nat_lt, cond, ◌||◌, is_some}
 use Rattle.std.specs.List.{All}
 use Rattle.pl_turn.specs.History.{IsSameOrOneMore, IsEachOnce, StandsIn, times_in, longer}
 use Rattle.pl_turn.specs.Passes.{IsPassOf, seen_of, mine_of, counted_of, in_turn, crew_of, opening_of, lists_of}
-use Rattle.pl_turn.proofs.Histories.{prefix_trans, prefix_length}
+use Rattle.pl_turn.proofs.Histories.{prefix_self, prefix_trans, prefix_length}
 use Rattle.pl_model.specs.declared.whole.Model.{Model}
 use Rattle.pl_marks.specs.declared.author.Author.{Author}
 use Rattle.pl_marks.specs.declared.author.Author.TheVariants.{Feeder}
@@ -41,17 +41,18 @@ use Rattle.pl_acts.specs.declared.sight.Sight.{Sight}
 use Rattle.pl_acts.specs.Items.{items_of, entries_in, model_in, stop_in, InWorld}
 use Rattle.pl_acts.specs.Roles.{has_event, IsChosen, IsInputOf}
 use Rattle.pl_acts.specs.Replicas.{log_of, IsReplica, IsDraft, IsDraftOf}
-use Rattle.pl_acts.specs.Sights.{AsksIn, HasRoomIn, at_once, IsPlanned, IsDueBy}
+use Rattle.pl_acts.specs.Sights.{AsksIn, HasRoomIn, HasLooked, IsSight, as_seen, at_once, behind, IsPlanned, IsDueBy, IsAskedAtMost}
 use Rattle.pl_acts.specs.Inside as inside
 use Rattle.pl_acts.specs.Signing.{Written}
-use Rattle.pl_acts.specs.Inside.{signs_in, items_in, IsSound, IsStepIn, Logs, KeepsLog, Spoiled, can_listen, FeedsIn, IsPart, Wants, Executes, ExecutesIn, RestsAtOnce, LooksIn, SettlesIn}
+use Rattle.pl_acts.specs.Inside.{signs_in, items_in, IsSound, IsStepIn, Logs, KeepsLog, Spoiled, can_listen, FeedsIn, IsPart, Wants, Executes, ExecutesIn, RestsAtOnce, LooksIn, SettlesIn, MayRepair, RepairsAtOnce, RepairsIn, LooksOrRepairs}
 use Rattle.pl_acts.specs.Seen.{IsPlan, IsFull, Copies}
 use Rattle.pl_acts.proofs.Replicas.{replica_here, moves_here}
+use Rattle.pl_acts.proofs.AtOnce.{seeded_is_proposal}
 use Rattle.pl_acts.proofs.Growing.{keeps_items, logs_items, stopped_first, same_held, plan_in, some_model, some_opening, grown_prefix}
 use Rattle.pl_acts.proofs.Items.{length_going, model_in_items, opening_in_items, in_world_of, in_world, world_in, prefix_whole, stop_in_same, entries_in_items}
 use Rattle.pl_locked.specs.declared.plan.SharedPlan.{SharedPlan}
 use Rattle.pl_locked.specs.Plans.{PlanPass, BelongsTo, Closes}
-use Rattle.pl_locked.specs.Turns.{TakesTurn, Makes, MakesNothing, low_of, Feeds, Acts, Looks, CanSettle, IsSettled, Settles, Stops, was_stopped, is_stopped}
+use Rattle.pl_locked.specs.Turns.{TakesTurn, Makes, MakesNothing, low_of, Feeds, Acts, Lends, Looks, CanSettle, IsSettled, Settles, Stops, was_stopped, is_stopped}
 
 -- a turn begins
 pub enters : (old mid : PlanPass) → IsPlan (seen_of old) → IsPrefix (seen_of old) (seen_of mid) → counted_of old ≤ length (seen_of mid)
@@ -257,15 +258,81 @@ module _ (old mid new : PlanPass) (held held2 : Held) (turn : Turn old mid new h
             ∙ ap (λ (k : Model). items_of k (log_of draft) (signs_in held)) (sym model);
       }
 
-  pub opened : (by : Author) (draft : Draft) → LooksIn by held (Ok (looked.Open draft)) held2 → Looks by old (Ok (looked.Open draft)) new
+  pub opened : (by : Author) (draft : Draft) → LooksIn by held (Ok (looked.Open draft)) held2 → Lends old draft new
   opened by draft looks =
       let keeps = same_held held held2 looks.4 in
       (made_none keeps, stands_in keeps AsksIn looks.0.unspoiled looks.1, room_in keeps looks.0.unspoiled looks.2, drafted draft looks.3 looks.0.running looks.4)
 
-  pub looked_at : (by : Author) (a : Result Looked Stop) → LooksIn by held a held2 → Looks by old a new
-  looked_at by (Ok (looked.Settled a)) looks = λ g. looked_over by g a looks
-  looked_at by (Ok (looked.Open draft)) looks = opened by draft looks
-  looked_at by (Err s) looks = λ g. look_stops by g s looks
+  looked_at : (by : Author) (g : Lcg) (a : Result Looked Stop) → LooksIn by held a held2 → Looks by g old a g new
+  looked_at by g (Ok (looked.Settled a)) looks = looked_over by g a looks
+  looked_at by g (Ok (looked.Open draft)) looks = (opened by draft looks, refl)
+  looked_at by g (Err s) looks = look_stops by g s looks
+
+  -- ---- a planner repairs in the turn in which it looks
+
+  looked_on : MayRepair held → IsHistory held.plan.machine.model held.plan.machine.log held.plan.machine.world → (before : List Noted) → IsHere before → IsPrefix (seen_of old) before → HasLooked (low_of old) before
+  looked_on may history before is on =
+      let P : List Entry → Type 0 = λ es. length es < held.plan.machine.world.options.entries in
+      let entries : entries_in before ≡ held.plan.machine.log = ap entries_in is ∙ entries_in_items held.plan.machine.model held.plan.machine.log (signs_in held) in
+      record {
+        front = before;
+        on = prefix_self before;
+        late = prefix_length (seen_of old) before on;
+        running = stop_in_same before held.plan.machine.model held.plan.machine.log (signs_in held) is ∙ may.going.running;
+        asks = here AsksIn before is history may.asks;
+        room = here (λ w. length (entries_in before) < w.options.entries) before is history (subst P (sym entries) may.room);
+      }
+
+  sight_here : (g : Lcg) (p : Option Proposal) → MayRepair held → IsHistory held.plan.machine.model held.plan.machine.log held.plan.machine.world → (before : List Noted) → IsHere before → IsPrefix (seen_of old) before
+      → seeded_pick held.plan.machine.world.state g ≡ p → IsSight g (low_of old) before p
+  unfolding looked_on
+  sight_here g p may history before is on picks =
+      let P : Option Proposal → Type 0 = λ o. IsProposal held.plan.machine.world.state o in
+      record {
+        look = looked_on may history before is on;
+        picks = here (λ w. p ≡ seeded_pick w.state g) before is history (sym picks);
+        legal = here (λ w. IsProposal w.state p) before is history (subst P picks (seeded_is_proposal held.plan.machine.world.state g));
+      }
+
+  planned_at_once : (g g2 : Lcg) → MayRepair held → IsHistory held.plan.machine.model held.plan.machine.log held.plan.machine.world → (before : List Noted) → IsHere before → IsPrefix (seen_of old) before
+      → (v : Event) (r : Reply) → RepairsAtOnce g g2 held.plan.machine.world v r → IsPlanned g (low_of old) before v r g2
+  planned_at_once g g2 may history before is begins (event.Fix k m) r repairs =
+      as_seen (sight_here g (Some (record { conflict = k; mv = m })) may history before is begins repairs.0) (λ whole. repairs.1) repairs.2
+  planned_at_once g g2 may history before is begins event.Rest r repairs = behind None (sight_here g None may history before is begins repairs.0) (inl refl) repairs.1
+  planned_at_once g g2 may history before is begins (event.Opened o) r repairs = absurd repairs
+  planned_at_once g g2 may history before is begins (event.Input line) r repairs = absurd repairs
+  planned_at_once g g2 may history before is begins (event.Commit h) r repairs = absurd repairs
+  planned_at_once g g2 may history before is begins event.Dispatch r repairs = absurd repairs
+  planned_at_once g g2 may history before is begins event.Close r repairs = absurd repairs
+
+  -- memory was wanting: the chooser was asked once at most
+  asked_once : (g g2 : Lcg) → MayRepair held → KeepsLog held held2 → (g2 ≡ g) ⊎ (g2 ≡ seeded_after g) → IsAskedAtMost (Planner g) (low_of old) (seen_of new) (Planner g2)
+  asked_once g g2 may keeps (inl same) = inl same
+  asked_once g g2 may keeps (inr drew) = inr (inl (looked_on may (turn.sound.history may.going.unspoiled) (seen_of new) (seen_same keeps) took_turn.longer, drew))
+
+  repair_stops : (by : Author) (g g2 : Lcg) → MayRepair held → Wants held held2 → (g2 ≡ g) ⊎ (g2 ≡ seeded_after g) → Acts by (Planner g) old (Err stop.Memory) (Planner g2) new
+  repair_stops by g g2 may (inl spoiled) once = (made_none spoiled.1, asked_once g g2 may spoiled.1 once)
+  repair_stops by g g2 may (inr same) once = (made_none (same_held held held2 same.1), asked_once g g2 may (same_held held held2 same.1) once)
+
+  repaired : (by : Author) (g g2 : Lcg) (a : Result Looked Stop) → MayRepair held → RepairsIn by g held a g2 held2 → Looks by g old a g2 new
+  repaired by g g2 (Ok (looked.Settled (acted.Did n))) may repairs =
+      let history = turn.sound.history may.going.unspoiled in
+      made_one (λ w e. RepairsAtOnce g g2 w e.event e.reply) (IsDueBy (Planner g) (Planner g2) (low_of old)) by n history repairs (λ before is on. (
+        here (λ w. (w.done ≡ false) × (has_event (Planner g) w ≡ true)) before is history (may.going.going, may.asks.1),
+        planned_at_once g g2 may history before is on repairs.entry.event repairs.entry.reply repairs.by,
+      ))
+  repaired by g g2 (Ok (looked.Settled acted.Nothing)) may repairs = absurd repairs
+  repaired by g g2 (Ok (looked.Settled acted.Finished)) may repairs = absurd repairs
+  repaired by g g2 (Ok (looked.Settled acted.Stopped)) may repairs = absurd repairs
+  repaired by g g2 (Ok (looked.Open draft)) may repairs = absurd repairs
+  repaired by g g2 (Err stop.Spoiled) may repairs = absurd repairs
+  repaired by g g2 (Err stop.NotNow) may repairs = absurd repairs
+  repaired by g g2 (Err stop.LogFull) may repairs = absurd repairs
+  repaired by g g2 (Err stop.Memory) may repairs = repair_stops by g g2 may repairs.0 repairs.1
+
+  pub looked_or_repaired : (by : Author) (g g2 : Lcg) (a : Result Looked Stop) → LooksOrRepairs by g held a g2 held2 → Looks by g old a g2 new
+  looked_or_repaired by g g2 a (inl looks) = subst (λ (x : Lcg). Looks by g old a x new) (sym looks.1) (looked_at by g a looks.0)
+  looked_or_repaired by g g2 a (inr repairs) = repaired by g g2 a repairs.0 repairs.1
 
   -- ---- a planner settles
 

@@ -23,6 +23,7 @@ use Rattle.pl_acts.specs.declared.role.Role.{Role}
 use Rattle.pl_acts.specs.declared.role.Role.TheVariants.{Planner}
 use Rattle.pl_acts.specs.declared.role.Acted.{Acted}
 use Rattle.pl_acts.specs.declared.role.Acted.TheVariants as acted
+use Rattle.pl_acts.specs.declared.draft.Draft.{Draft}
 use Rattle.pl_acts.specs.declared.look.Looked.{Looked}
 use Rattle.pl_acts.specs.declared.look.Looked.TheVariants as looked
 use Rattle.pl_acts.specs.declared.sight.Sight.{Sight}
@@ -84,11 +85,15 @@ Acts by r old (Err stop.Memory) r2 new = MakesNothing old new × IsAskedAtMost r
 
 -- ---- the two halves of a planner's act
 
--- What a planner's look finds, exactly by its cause, in this order: Finished, Stopped, Nothing, LogFull, a rest for a plain reason, and else a replica to be asked about.
-abbrev pub Looks : Author → PlanPass → Result Looked Stop → PlanPass → Type 0
-Looks by old (Ok (looked.Settled a)) new = (g : Lcg) → Acts by (Planner g) old (Ok a) (Planner g) new
-Looks by old (Ok (looked.Open draft)) new = MakesNothing old new × InWorld (seen_of new) AsksIn × HasRoomIn (seen_of new) × IsDraftOf (seen_of new) draft
-Looks by old (Err s) new = (g : Lcg) → Acts by (Planner g) old (Err s) (Planner g) new
+-- A replica was lent to be asked about: repair goes on, and the log has room.
+abbrev pub Lends : PlanPass → Draft → PlanPass → Type 0
+Lends old draft new = MakesNothing old new × InWorld (seen_of new) AsksIn × HasRoomIn (seen_of new) × IsDraftOf (seen_of new) draft
+
+-- A planner's first turn: its act, if it is over with it, or a replica to be asked about.
+abbrev pub Looks : Author → Lcg → PlanPass → Result Looked Stop → Lcg → PlanPass → Type 0
+Looks by g old (Ok (looked.Settled a)) g2 new = Acts by (Planner g) old (Ok a) (Planner g2) new
+Looks by g old (Ok (looked.Open draft)) g2 new = Lends old draft new × (g2 ≡ g)
+Looks by g old (Err s) g2 new = Acts by (Planner g) old (Err s) (Planner g2) new
 
 -- The chooser was asked in the world after all that the pass has seen behind the call, and has drawn its words once.
 pub record Sees (r : Role) (old new : PlanPass) (sight : Sight) (r2 : Role) : Type 0 where

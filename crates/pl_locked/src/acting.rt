@@ -12,8 +12,8 @@ use std::alloc::Global;
 use std::sync::Wait;
 
 impl SharedPlan {
-    /// Makes the event that the role has, if it has one, as this author. A planner takes two turns, unless it has nothing to choose, and its
-    /// chooser is asked between them.
+    /// Makes the event that the role has, if it has one, as this author. A planner takes two turns, and its chooser is asked between them,
+    /// unless it has nothing to choose, or is the only planner and nobody else has anything to do: then it takes one.
     #[tactic(auto, using(crate::proofs::Halves::can_settle, crate::proofs::Halves::acts_by_both, crate::proofs::Halves::sees_planner, crate::proofs::Halves::both_turns))]
     pub fn act_as<R: Wait>(
         &self,
@@ -29,7 +29,7 @@ impl SharedPlan {
         ensures takes { TakesTurn pass.old pass.new }
         ensures acts { Acts by role.old pass.old result role.new pass.new }
     {
-        match self.view_as(rt, alloc, pass, by, role)? {
+        match self.begin(rt, alloc, pass, by, role, true)? {
             View::Settled(acted) => Ok(acted),
             View::Copy(sight) => self.settle_as(rt, pass, by, role, sight),
         }

@@ -22,6 +22,7 @@ impl SharedPlan {
         let before = held.busy();
         let fed = held.feed(Author::Feeder, line);
         let behind = held.busy();
+        self.bells.note(behind);
         self.leave(pass, held);
         self.bells.ring(rt, before, behind);
         fed

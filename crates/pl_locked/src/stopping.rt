@@ -18,6 +18,7 @@ impl SharedPlan {
         let before = held.busy();
         held.stop(by);
         let behind = held.busy();
+        self.bells.note(behind);
         self.leave(pass, held);
         self.bells.ring(rt, before, behind);
     }

@@ -26,34 +26,39 @@ impl SharedPlan {
         let before = held.busy();
         let acted = held.execute(by);
         let behind = held.busy();
+        self.bells.note(behind);
         self.leave(pass, held);
         self.bells.ring(rt, before, behind);
         acted
     }
 
+    /// A planner's first turn. With `at_once` it repairs in it if nobody else has anything to do.
     fn look<R: Wait>(
         &self,
         rt: &R,
         alloc: Global,
         pass: &mut Pass,
         by: Author,
+        chooser: &mut Seeded,
+        at_once: bool,
     ) -> Result<Looked, Stop>
         requires own { BelongsTo self.now pass.old }
         requires author { IsAuthor by }
         ensures own { BelongsTo self.now pass.new }
         ensures takes { TakesTurn pass.old pass.new }
-        ensures looks { Looks by pass.old result pass.new }
+        ensures looks { Looks by chooser.old pass.old result chooser.new pass.new }
     {
         let mut held = self.enter(rt, pass);
         let before = held.busy();
-        let looked = held.look(by, alloc);
+        let looked = held.look_or_repair(by, chooser, at_once, alloc);
         let behind = held.busy();
+        self.bells.note(behind);
         self.leave(pass, held);
         self.bells.ring(rt, before, behind);
         looked
     }
 
-    #[tactic(auto, using(crate::proofs::Halves::viewed, crate::proofs::Halves::copied, crate::proofs::Halves::view_stops))]
+    #[tactic(auto, using(crate::proofs::Halves::viewed, crate::proofs::Halves::view_stops))]
     fn view_plan<R: Wait>(
         &self,
         rt: &R,
@@ -61,6 +66,7 @@ impl SharedPlan {
         pass: &mut Pass,
         by: Author,
         chooser: &mut Seeded,
+        at_once: bool,
     ) -> Result<View, Stop>
         requires own { BelongsTo self.now pass.old }
         requires author { IsAuthor by }
@@ -68,12 +74,37 @@ impl SharedPlan {
         ensures takes { TakesTurn pass.old pass.new }
         ensures views { Views by (Role.Planner chooser.old) pass.old result (Role.Planner chooser.new) pass.new }
     {
-        match self.look(rt, alloc, pass, by)? {
+        match self.look(rt, alloc, pass, by, chooser, at_once)? {
             Looked::Settled(acted) => Ok(View::Settled(acted)),
             Looked::Open(draft) => match ask(chooser, draft) {
                 Ok(sight) => Ok(View::Copy(sight)),
                 Err(_) => Err(Stop::Memory),
             },
+        }
+    }
+
+    /// The first turn of an act, and with `at_once` the only one where nobody else has anything to do.
+    pub(crate) fn begin<R: Wait>(
+        &self,
+        rt: &R,
+        alloc: Global,
+        pass: &mut Pass,
+        by: Author,
+        role: &mut Role,
+        at_once: bool,
+    ) -> Result<View, Stop>
+        requires own { BelongsTo self.now pass.old }
+        requires author { IsAuthor by }
+        ensures own { BelongsTo self.now pass.new }
+        ensures takes { TakesTurn pass.old pass.new }
+        ensures views { Views by role.old pass.old result role.new pass.new }
+    {
+        match role {
+            Role::Planner(chooser) => self.view_plan(rt, alloc, pass, by, chooser, at_once),
+            Role::Executive => {
+                let acted = self.execute(rt, pass, by)?;
+                Ok(View::Settled(acted))
+            }
         }
     }
 
@@ -93,13 +124,7 @@ impl SharedPlan {
         ensures takes { TakesTurn pass.old pass.new }
         ensures views { Views by role.old pass.old result role.new pass.new }
     {
-        match role {
-            Role::Planner(chooser) => self.view_plan(rt, alloc, pass, by, chooser),
-            Role::Executive => {
-                let acted = self.execute(rt, pass, by)?;
-                Ok(View::Settled(acted))
-            }
-        }
+        self.begin(rt, alloc, pass, by, role, false)
     }
 
     /// [`SharedPlan::view_as`] the author of the role, where there is one planner.
@@ -138,6 +163,7 @@ impl SharedPlan {
         let before = held.busy();
         let acted = held.settle(by, chooser, sight);
         let behind = held.busy();
+        self.bells.note(behind);
         self.leave(pass, held);
         self.bells.ring(rt, before, behind);
         acted

@@ -8,6 +8,13 @@ impl SharedPlan {
         self.bells.rings(rt, listener)
     }
 
+    /// Lets a moment pass where this listener is a planner and the executive has something to do.
+    pub(crate) fn give_way(&self, listener: Listener) {
+        if listener == Listener::Planner {
+            self.bells.let_executive_go_first();
+        }
+    }
+
     /// Waits until this listener has come to have something to do since so many times.
     pub fn wait<R: Wait>(&self, rt: &R, listener: Listener, heard: u64) {
         self.bells.wait(rt, listener, heard);

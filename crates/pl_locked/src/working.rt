@@ -33,6 +33,7 @@ pub(crate) fn work_once<R: Wait, G: Gate>(
     let heard = plan.changes(rt, listener);
     let worker = by.worker();
     gate.before(rt, worker, acts);
+    plan.give_way(listener);
     let acted = plan.act_as(rt, alloc, pass, by, role);
     match acted {
         Ok(Acted::Did(entry)) => gate.after(rt, worker, entry),
