@@ -24,19 +24,6 @@ use Rattle.pl_machine.specs.Changes.{CanChange}
 use Rattle.pl_machine.specs.declared.change.Change.TheVariants.{Accept, Tell, Tick}
 use Rattle.pl_machine.specs.Messages.{goal_reply, tick_reply, message_reply, read_reply, line_reply}
 
--- ---- models whose parts can be numbered
-
-few_states : (t : Timeline) → IsCheckedLine t → HasFewStates t
-few_states (timeline.Capacity name most) checked = tt
-few_states (timeline.Level name least most start) checked = tt
-few_states (timeline.States name states start any steps) checked = let few = checked.0 in omega arith
-
-pub is_numbered_model : (m : Model) → IsChecked m → IsNumbered m
-is_numbered_model m checked =
-    let kinds = checked.few_kinds in
-    let timelines = checked.few_timelines in
-    record { kinds = omega arith; timelines = omega arith; states = All-weaker IsCheckedLine HasFewStates few_states m.timelines checked.timelines }
-
 -- ---- goals
 
 none_by : (b rest : Bool) (g : Goal) (found : Option Goal) → (b || rest) ≡ false → (rest ≡ false → found ≡ None) → (if b then Some g else found) ≡ None

@@ -1,7 +1,7 @@
 use crate::asked::Asked;
-use crate::problem::Problem;
+use crate::problem::{Problem, problem_of};
 use pl_model::Model;
-use pl_prefs::{Prefer, PreferFault, read_prefer};
+use pl_prefs::{Prefer, read_prefer};
 use std::alloc::{AllocError, Global};
 
 impl Asked for Prefer {
@@ -19,10 +19,7 @@ impl Asked for Prefer {
     ) -> Result<Result<Prefer, Problem>, AllocError> {
         match read_prefer(alloc, model, line) {
             Ok(prefer) => Ok(Ok(prefer)),
-            Err(PreferFault::BadLine) => Ok(Err(Problem::BadLine)),
-            Err(PreferFault::UnknownName) => Ok(Err(Problem::UnknownName)),
-            Err(PreferFault::OutOfRange) => Ok(Err(Problem::OutOfRange)),
-            Err(PreferFault::Memory) => Err(AllocError),
+            Err(fault) => Ok(Err(problem_of(fault)?)),
         }
     }
 }

@@ -1,7 +1,7 @@
 use crate::asked::Asked;
-use crate::problem::Problem;
+use crate::problem::{Problem, problem_of};
 use pl_model::Model;
-use pl_rate::{Rate, RateFault, read_rate};
+use pl_rate::{Rate, read_rate};
 use std::alloc::{AllocError, Global};
 
 impl Asked for Rate {
@@ -19,10 +19,7 @@ impl Asked for Rate {
     ) -> Result<Result<Rate, Problem>, AllocError> {
         match read_rate(alloc, model, line) {
             Ok(rate) => Ok(Ok(rate)),
-            Err(RateFault::BadLine) => Ok(Err(Problem::BadLine)),
-            Err(RateFault::UnknownName) => Ok(Err(Problem::UnknownName)),
-            Err(RateFault::OutOfRange) => Ok(Err(Problem::OutOfRange)),
-            Err(RateFault::Memory) => Err(AllocError),
+            Err(fault) => Ok(Err(problem_of(fault)?)),
         }
     }
 }
