@@ -1,6 +1,6 @@
 -- What a rate that is read names is there, and its change is in range.
-use Rattle.std.proofs.Common.{◌≡◌, ℕ, ◌<◌, ◌≤◌, Bool, true, false, List, length, Ok, Err, refl, sym, subst, arith, pos, ◌≤ℤ◌, if◌then◌else◌}
-use Rattle.std.specs.Prelude.{Option, Some, None, IfSome, IfOk, slice_get, bytes_eq, nat_le, neg_ℤ}
+use Rattle.std.proofs.Common.{◌≡◌, ℕ, ◌<◌, ◌≤◌, Bool, true, false, List, length, Ok, Err, sym, subst, arith, pos, ◌≤ℤ◌, if◌then◌else◌}
+use Rattle.std.specs.Prelude.{Option, Some, None, IfSome, IfOk, nat_le, neg_ℤ}
 use Rattle.std.proofs.lemmas.Bool.{leb-true}
 use Rattle.std.proofs.lemmas.Int.{ints}
 use Rattle.pl_lists.specs.Judgements.{◌>>=◌}
