@@ -1,7 +1,7 @@
 -- The parts of a checked model can be numbered, and what a token names is there.
 use Rattle.std.proofs.Common.{◌≡◌, ℕ, ◌<◌, List, length, Option, Some, None, Ok, slice_get, refl, sym, subst, arith}
 use Rattle.std.specs.Prelude.{bytes_eq}
-use Rattle.std.proofs.lemmas.Option.{slice_get_within}
+use Rattle.std.proofs.lemmas.Option.{slice_get_within, get_or_from_slice_get}
 use Rattle.std.proofs.lemmas.List.Elements.{All-weaker}
 use Rattle.pl_text.specs.declared.token.Token.{Token}
 use Rattle.pl_text.specs.Tokens.{token_text}
@@ -9,7 +9,7 @@ use Rattle.pl_model.specs.declared.kinds.Kind.{Kind}
 use Rattle.pl_model.specs.declared.timelines.Timeline.{Timeline}
 use Rattle.pl_model.specs.declared.timelines.Timeline.TheVariants as timeline
 use Rattle.pl_model.specs.declared.whole.Model.{Model}
-use Rattle.pl_model.specs.Checked.{IsChecked, IsCheckedLine, IsLevelLine}
+use Rattle.pl_model.specs.Checked.{IsChecked, IsCheckedKind, IsCheckedLine, IsLevelLine}
 use Rattle.pl_msg.specs.Names.{kind_named, timeline_name, timeline_named, kind_found, kind_in, level_found, level_in}
 use Rattle.pl_msg.specs.Limits.{IsNumbered, HasFewStates}
 use Rattle.pl_msg.proofs.Within.{first_from-Some}
@@ -51,3 +51,10 @@ level_found_there model text l (Some (n, timeline.States name states start any s
 -- the level is one of the model's
 pub level_there : (model : Model) (line : List ℕ) (t : Token) (l : ℕ) → level_in model line t ≡ Ok l → IsLevelLine (slice_get model.timelines l)
 level_there model line t l e = level_found_there model (token_text line t) l (timeline_named model (token_text line t)) refl e
+
+-- a kind that is found has at most 16 parameters
+pub kind_few : (model : Model) → IsChecked model → (text : List ℕ) (n : ℕ) (kind : Kind) → Some (n, kind) ≡ kind_named model text → length kind.params ≤ 16
+kind_few model checked text n kind is =
+    let found = first_from-Some (λ (d : Kind). bytes_eq d.name text) 0 model.kinds n kind (sym is) in
+    let there : IsCheckedKind model kind = subst (IsCheckedKind model) (get_or_from_slice_get model.kinds found.0 kind kind found.2) (checked.kinds found.0 kind (slice_get_within model.kinds found.0 kind found.2)) in
+    there.few_params

@@ -1,7 +1,8 @@
-ghost use Rattle.std.specs.Prelude.{◌≡◌, ◌<◌, ◌≤◌, ◌^◌, length, option_map, IfSome, Some, slice_get, All};
+ghost use Rattle.std.specs.Prelude.{◌≡◌, ◌<◌, ◌≤◌, ◌^◌, length, option_map, IfOk, IfSome, Some, slice_get, All};
 ghost use Rattle.std.specs.Result.{result_map_both};
+ghost use Rattle.pl_model.specs.Checked.{IsChecked};
 ghost use Rattle.pl_msg.specs.Names.{kind_named, timeline_name, timeline_named, state_named, is_free, kind_in, level_in};
-ghost use Rattle.pl_msg.specs.Limits.{HasFewStates, IsNumbered};
+ghost use Rattle.pl_msg.specs.Limits.{HasFewStates};
 
 use crate::fault::ParseFault;
 use pl_model::{Kind, Model, Name, Origin, Timeline};
@@ -70,14 +71,15 @@ pub fn is_free(origin: &Origin) -> bool
     }
 }
 
-/// The kind that a token of a line names, with its number.
+/// The kind of a checked model that a token of a line names, with its number.
 pub fn kind_of<'a>(
     model: &'a Model,
     line: &[u8],
     token: &Token,
 ) -> Result<(u32, &'a Kind), ParseFault>
-    requires { IsNumbered model.now }
-    ensures { result_map_both (λ p. (p.0, p.1.now)) (λ e. e) result ≡ kind_in model.now line.now token.now }
+    requires { IsChecked model.now }
+    ensures value { result_map_both (λ p. (p.0, p.1.now)) (λ e. e) result ≡ kind_in model.now line.now token.now }
+    ensures few { IfOk result (λ p. length p.1.now.params ≤ 16) }
 {
     match kind_named(model, token_text(line, token)) {
         Some(found) => Ok(found),
@@ -85,9 +87,10 @@ pub fn kind_of<'a>(
     }
 }
 
-/// The number of the level that a token of a line names.
+/// The number of the level of a checked model that a token of a line names.
+#[tactic(auto, using(crate::proofs::Naming::is_numbered_model))]
 pub fn level_of(model: &Model, line: &[u8], token: &Token) -> Result<u32, ParseFault>
-    requires { IsNumbered model.now }
+    requires { IsChecked model.now }
     ensures { result ≡ level_in model.now line.now token.now }
 {
     match timeline_named(model, token_text(line, token)) {

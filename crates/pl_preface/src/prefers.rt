@@ -1,6 +1,7 @@
 use crate::asked::Asked;
-use crate::problem::{Problem, problem_of};
+use crate::problem::Problem;
 use pl_model::Model;
+use pl_msg::ParseFault;
 use pl_prefs::{Prefer, read_prefer};
 use std::alloc::{AllocError, Global};
 
@@ -19,7 +20,10 @@ impl Asked for Prefer {
     ) -> Result<Result<Prefer, Problem>, AllocError> {
         match read_prefer(alloc, model, line) {
             Ok(prefer) => Ok(Ok(prefer)),
-            Err(fault) => Ok(Err(problem_of(fault)?)),
+            Err(ParseFault::BadLine) => Ok(Err(Problem::BadLine)),
+            Err(ParseFault::UnknownName) => Ok(Err(Problem::UnknownName)),
+            Err(ParseFault::OutOfRange) => Ok(Err(Problem::OutOfRange)),
+            Err(ParseFault::Memory) => Err(AllocError),
         }
     }
 }

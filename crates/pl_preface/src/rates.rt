@@ -1,6 +1,7 @@
 use crate::asked::Asked;
-use crate::problem::{Problem, problem_of};
+use crate::problem::Problem;
 use pl_model::Model;
+use pl_msg::ParseFault;
 use pl_rate::{Rate, read_rate};
 use std::alloc::{AllocError, Global};
 
@@ -19,7 +20,10 @@ impl Asked for Rate {
     ) -> Result<Result<Rate, Problem>, AllocError> {
         match read_rate(alloc, model, line) {
             Ok(rate) => Ok(Ok(rate)),
-            Err(fault) => Ok(Err(problem_of(fault)?)),
+            Err(ParseFault::BadLine) => Ok(Err(Problem::BadLine)),
+            Err(ParseFault::UnknownName) => Ok(Err(Problem::UnknownName)),
+            Err(ParseFault::OutOfRange) => Ok(Err(Problem::OutOfRange)),
+            Err(ParseFault::Memory) => Err(AllocError),
         }
     }
 }

@@ -1,5 +1,5 @@
 -- What a preference that is read names is there, and its weight is in range.
-use Rattle.std.proofs.Common.{◌≡◌, ℕ, ◌<◌, ◌≤◌, ◌&&◌, List, length, Ok, Err, refl, sym, subst, arith, ℤ, pos}
+use Rattle.std.proofs.Common.{◌≡◌, ℕ, ◌<◌, ◌&&◌, List, length, Ok, Err, refl, sym, subst, arith, ℤ, pos}
 use Rattle.std.specs.Prelude.{Option, Some, None, IfOk, bytes_eq, nat_le}
 use Rattle.std.proofs.lemmas.Option.{slice_get_within}
 use Rattle.std.proofs.lemmas.Bool.{leb-true, and_parts}
@@ -11,8 +11,7 @@ use Rattle.pl_text.specs.Tokens.{token_text}
 use Rattle.pl_model.specs.declared.kinds.Kind.{Kind}
 use Rattle.pl_model.specs.declared.parameters.Param.{Param}
 use Rattle.pl_model.specs.declared.whole.Model.{Model}
-use Rattle.pl_model.specs.Checked.{IsChecked, params_of}
-use Rattle.pl_plan.proofs.FirmSteps.{checked_kind}
+use Rattle.pl_model.specs.Checked.{params_of}
 use Rattle.pl_msg.specs.declared.fault.ParseFault.TheVariants as fault
 use Rattle.pl_msg.specs.Reads.{Read}
 use Rattle.pl_msg.specs.Names.{kind_in, level_in}
@@ -23,9 +22,6 @@ use Rattle.pl_prefs.specs.declared.form.PreferForm.TheVariants as form
 use Rattle.pl_prefs.specs.declared.prefer.Prefer.{Prefer}
 use Rattle.pl_prefs.specs.declared.prefer.Prefer.TheVariants as prefer
 use Rattle.pl_prefs.specs.Prefers.{param_named, param_found, param_by, weight_of, early_with, late_with, value_with, level_with, prefer_with, IsWeight, HasParam, IsPreferOf}
-
-pub kind_few : (model : Model) → IsChecked model → (line : List ℕ) (t : Token) (n : ℕ) (kind : Kind) → Ok (n, kind) ≡ kind_in model line t → length kind.params ≤ 16
-kind_few model checked line t n kind is = (checked_kind model checked n kind (kind_there model line t (n, kind) (sym is)).1).few_params
 
 param_there : (params : List Param) (text : List ℕ) (n : ℕ) (o : Option (ℕ × Param)) → param_named params text ≡ o → param_found o ≡ Ok n → n < length params
 param_there params text n None is e = absurd (cc)

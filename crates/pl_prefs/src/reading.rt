@@ -48,7 +48,7 @@ fn weight_of(number: u64) -> Result<i64, ParseFault>
     }
 }
 
-#[tactic(auto, using(pl_msg::proofs::Naming::is_numbered_model), unfolding(crate::specs::Prefers::early_with))]
+#[tactic(auto, unfolding(crate::specs::Prefers::early_with))]
 fn early(model: &Model, line: &[u8], kind: &Token, weight: u64) -> Result<Prefer, ParseFault>
     requires { IsChecked model.now }
     ensures { result ≡ early_with model.now line.now kind.now weight }
@@ -58,7 +58,7 @@ fn early(model: &Model, line: &[u8], kind: &Token, weight: u64) -> Result<Prefer
     Ok(Prefer::Early(number, weight))
 }
 
-#[tactic(auto, using(pl_msg::proofs::Naming::is_numbered_model), unfolding(crate::specs::Prefers::late_with))]
+#[tactic(auto, unfolding(crate::specs::Prefers::late_with))]
 fn late(model: &Model, line: &[u8], kind: &Token, weight: u64) -> Result<Prefer, ParseFault>
     requires { IsChecked model.now }
     ensures { result ≡ late_with model.now line.now kind.now weight }
@@ -68,7 +68,7 @@ fn late(model: &Model, line: &[u8], kind: &Token, weight: u64) -> Result<Prefer,
     Ok(Prefer::Late(number, weight))
 }
 
-#[tactic(auto, using(pl_msg::proofs::Naming::is_numbered_model), unfolding(crate::specs::Prefers::value_with))]
+#[tactic(auto, unfolding(crate::specs::Prefers::value_with))]
 fn value(
     model: &Model,
     line: &[u8],
@@ -85,7 +85,7 @@ fn value(
     Ok(Prefer::Value(number, param, weight))
 }
 
-#[tactic(auto, using(pl_msg::proofs::Naming::is_numbered_model), unfolding(crate::specs::Prefers::level_with))]
+#[tactic(auto, unfolding(crate::specs::Prefers::level_with))]
 fn level(model: &Model, line: &[u8], level: &Token, weight: u64) -> Result<Prefer, ParseFault>
     requires { IsChecked model.now }
     ensures { result ≡ level_with model.now line.now level.now weight }

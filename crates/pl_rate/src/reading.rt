@@ -1,6 +1,5 @@
 ghost use Rattle.std.specs.Prelude.{◌≡◌, ◌<◌, ◌≤◌, ◌^◌, length, option_map, IfOk};
 ghost use Rattle.pl_model.specs.Checked.{IsChecked};
-ghost use Rattle.pl_msg.specs.Limits.{IsNumbered};
 ghost use Rattle.pl_msg.specs.Reads.{Gives};
 ghost use Rattle.pl_rate.specs.Rates.{signed, kind_by, rate_by, rate_with, rate_of, IsRateOf};
 
@@ -25,7 +24,7 @@ fn signed(change: Change) -> i64
 
 // The number of the kind, if one is named.
 fn kind_by(model: &Model, line: &[u8], kind: Option<Token>) -> Result<Option<u32>, ParseFault>
-    requires { IsNumbered model.now }
+    requires { IsChecked model.now }
     ensures { result ≡ kind_by model.now line.now kind }
 {
     match kind {
@@ -50,7 +49,7 @@ fn rate_by(kind: Option<u32>, level: u32, change: Change) -> Result<Rate, ParseF
     })
 }
 
-#[tactic(auto, using(pl_msg::proofs::Naming::is_numbered_model), unfolding(crate::specs::Rates::rate_with))]
+#[tactic(auto, unfolding(crate::specs::Rates::rate_with))]
 fn rate_with(model: &Model, line: &[u8], form: RateForm) -> Result<Rate, ParseFault>
     requires { IsChecked model.now }
     ensures { result ≡ rate_with model.now line.now form }
