@@ -92,7 +92,12 @@ fn said_by(
 }
 
 #[tactic(auto, unfolding(crate::specs::Messages::said_in))]
-fn said_of(alloc: Global, model: &Model, line: &[u8], tokens: &[Token]) -> Result<Message, ParseFault>
+fn said_of(
+    alloc: Global,
+    model: &Model,
+    line: &[u8],
+    tokens: &[Token],
+) -> Result<Message, ParseFault>
     requires { IsNumbered model.now }
     ensures { Gives result (said_in model.now line.now tokens.now) }
 {

@@ -56,7 +56,12 @@ fn state_of(number: u32, states: &[Name], line: &[u8], value: Value) -> Result<M
     }
 }
 
-fn told_of(model: &Model, line: &[u8], timeline: &Token, value: Value) -> Result<Message, ParseFault>
+fn told_of(
+    model: &Model,
+    line: &[u8],
+    timeline: &Token,
+    value: Value,
+) -> Result<Message, ParseFault>
     requires { IsNumbered model.now }
     ensures { result ≡ told_by line.now value (timeline_named model.now (token_text line.now timeline.now)) }
 {
