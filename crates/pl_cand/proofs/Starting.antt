@@ -1,5 +1,5 @@
 -- Which moves stand among those that are tried.
-use Rattle.std.proofs.Common.{◌≡◌, ℕ, zero, suc, ◌+◌, eqb, Bool, true, false, List, [], ◌∷◌, ◌++◌, length, map, Option, Some, None, ℤ, pos, refl, sym, ap, ◌∙◌, arith}
+use Rattle.std.proofs.Common.{◌≡◌, ℕ, suc, ◌+◌, eqb, Bool, true, false, List, [], ◌∷◌, ◌++◌, length, map, Option, Some, None, ℤ, pos, refl, sym, ap, ◌∙◌, arith}
 use Rattle.std.specs.Prelude.{◌&&◌, ◌||◌, nat_lt, nat_le, negsuc, ◌-ℤ◌, if◌then◌else◌}
 use Rattle.std.specs.Int.{int_min, int_max}
 use Rattle.std.specs.List.{flat_map, list_any}
@@ -9,7 +9,6 @@ use Rattle.std.proofs.lemmas.Int.{ints}
 use Rattle.std.proofs.lemmas.List.Folds.{list_any-append}
 use Rattle.std.proofs.Math.Bool.{and-false, or-false}
 use Rattle.std.proofs.lemmas.Bool.Decides.{nat_tests}
-use Rattle.pl_lists.proofs.Numbers.{eqb_itself}
 use Rattle.pl_facts.specs.declared.goal.Goal.{Goal}
 use Rattle.pl_model.specs.declared.alternatives.Alternative.{Alternative}
 use Rattle.pl_model.specs.declared.kinds.Kind.{Kind}

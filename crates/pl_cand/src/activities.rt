@@ -92,9 +92,9 @@ fn add_free_assigns(
     Ok(())
 }
 
-// Appends assignments to each parameter of the activity that is free.
+/// Appends assignments to each parameter of the activity that is free.
 #[tactic(auto, using(crate::proofs::Listing::free_all))]
-fn add_all_assigns(
+pub fn add_all_assigns(
     alloc: Global,
     state: &PlanState,
     a: &Activity,

@@ -31,6 +31,7 @@ mod told;
 mod users;
 mod worth;
 
+pub use activities::add_all_assigns;
 pub use chooser::Chooser;
 pub use conflicts::candidates;
 pub use making::make;

@@ -2,19 +2,18 @@
 use Rattle.std.proofs.Common.{◌≡◌, ℕ, ◌<◌, ◌^◌, ℤ, pos, ◌≤ℤ◌, List, [], ◌∷◌, length, Bool, true, false, ◌||◌, Option, Some, None, IfSome, is_some, zero, suc, min, if◌then◌else◌, nat_lt, nat_le, slice_get, Ok, ap, refl, arith}
 use Rattle.std.specs.List.{list_any}
 use Rattle.std.proofs.lemmas.Bool.{leb-false, ltb-false}
-use Rattle.std.proofs.lemmas.List.Elements.{All-weaker}
 use Rattle.std.proofs.lemmas.Grind.{common_steps}
 use Rattle.pl_model.specs.declared.parameters.Param.{Param}
 use Rattle.pl_model.specs.declared.kinds.Kind.{Kind}
 use Rattle.pl_model.specs.declared.timelines.Timeline.{Timeline}
 use Rattle.pl_model.specs.declared.timelines.Timeline.TheVariants as timeline
 use Rattle.pl_model.specs.declared.whole.Model.{Model}
-use Rattle.pl_model.specs.Checked.{IsChecked, IsCheckedLine, params_of}
+use Rattle.pl_model.specs.Checked.{params_of}
 use Rattle.pl_facts.specs.declared.goal.Goal.{Goal}
 use Rattle.pl_facts.specs.Goals.{is_numbered, goal_of}
 use Rattle.pl_msg.specs.declared.message.Message.{Message}
 use Rattle.pl_msg.specs.Messages.{message_of}
-use Rattle.pl_msg.specs.Limits.{IsNumbered, HasFewStates, FitParams, IsGoalFor, IsLevel, HasState}
+use Rattle.pl_msg.specs.Limits.{FitParams, IsGoalFor, IsLevel, HasState}
 use Rattle.pl_entry.specs.declared.reply.Reply.{Reply}
 use Rattle.pl_entry.specs.declared.reply.Reply.TheVariants as reply
 use Rattle.pl_semantics.specs.declared.plan_state.PlanState.{PlanState}
@@ -23,19 +22,6 @@ use Rattle.pl_update.specs.Changes.Changes.{CanTell}
 use Rattle.pl_machine.specs.Changes.{CanChange}
 use Rattle.pl_machine.specs.declared.change.Change.TheVariants.{Accept, Tell, Tick}
 use Rattle.pl_machine.specs.Messages.{goal_reply, tick_reply, message_reply, read_reply, line_reply}
-
--- ---- models whose parts can be numbered
-
-few_states : (t : Timeline) → IsCheckedLine t → HasFewStates t
-few_states (timeline.Capacity name most) checked = tt
-few_states (timeline.Level name least most start) checked = tt
-few_states (timeline.States name states start any steps) checked = let few = checked.0 in omega arith
-
-pub is_numbered_model : (m : Model) → IsChecked m → IsNumbered m
-is_numbered_model m checked =
-    let kinds = checked.few_kinds in
-    let timelines = checked.few_timelines in
-    record { kinds = omega arith; timelines = omega arith; states = All-weaker IsCheckedLine HasFewStates few_states m.timelines checked.timelines }
 
 -- ---- goals
 

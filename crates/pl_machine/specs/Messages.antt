@@ -5,8 +5,8 @@ use Rattle.pl_facts.specs.declared.goal.Goal.{Goal}
 use Rattle.pl_facts.specs.Goals.{is_numbered}
 use Rattle.pl_msg.specs.declared.message.Message.{Message}
 use Rattle.pl_msg.specs.declared.message.Message.TheVariants as message
-use Rattle.pl_msg.specs.declared.fault.MsgFault.{MsgFault}
-use Rattle.pl_msg.specs.declared.fault.MsgFault.TheVariants as fault
+use Rattle.pl_msg.specs.declared.fault.ParseFault.{ParseFault}
+use Rattle.pl_msg.specs.declared.fault.ParseFault.TheVariants as fault
 use Rattle.pl_msg.specs.Reads.{Read}
 use Rattle.pl_msg.specs.Messages.{message_of}
 use Rattle.pl_entry.specs.declared.reply.Reply.{Reply}
@@ -61,10 +61,10 @@ message_reply s limit message.Halt = reply.Done
 message_reply s limit message.End = reply.Ended
 
 -- no line has the fault of wanting memory
-abbrev pub fault_reply : MsgFault → Reply
+abbrev pub fault_reply : ParseFault → Reply
 fault_reply fault.BadLine = reply.BadLine
 fault_reply fault.UnknownName = reply.UnknownName
-fault_reply fault.Range = reply.Range
+fault_reply fault.OutOfRange = reply.Range
 fault_reply fault.Memory = reply.BadLine
 
 -- to a line that was read; so many goals may be accepted

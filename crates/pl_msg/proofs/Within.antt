@@ -11,7 +11,7 @@ use Rattle.pl_model.specs.declared.whole.Model.{Model}
 use Rattle.pl_facts.specs.declared.goal.Goal.{Goal}
 use Rattle.pl_text.specs.declared.token.Token.{Token}
 use Rattle.pl_text.specs.Tokens.{token_text}
-use Rattle.pl_msg.specs.declared.fault.MsgFault.TheVariants as fault
+use Rattle.pl_msg.specs.declared.fault.ParseFault.TheVariants as fault
 use Rattle.pl_msg.specs.declared.forms.GoalForm.{GoalForm}
 use Rattle.pl_msg.specs.declared.presets.Preset.{Preset}
 use Rattle.pl_msg.specs.declared.message.Message.{Message}
@@ -53,7 +53,7 @@ fits_param line ps param value e = fits_by (is_free param.origin) refl e
     fits_value : (free : is_free param.origin ≡ true) (v : Option ℕ) → place_in param v ≡ Ok value → FitsParam param value
     fits_value free None e = let none : None ≡ value = cc in subst (λ (o : Option ℤ). FitsParam param o) none tt
     fits_value free (Some n) e =
-        let there = if_ok (int_le param.low (pos n) && int_le (pos n) param.high) (Ok (Some (pos n))) fault.Range value e in
+        let there = if_ok (int_le param.low (pos n) && int_le (pos n) param.high) (Ok (Some (pos n))) fault.OutOfRange value e in
         let both = and_parts (int_le param.low (pos n)) (int_le (pos n) param.high) there.0 in
         let some : Some (pos n) ≡ value = cc in
         subst (λ (o : Option ℤ). FitsParam param o) some (free, le_from_test _ _ both.0, le_from_test _ _ both.1)
@@ -76,7 +76,7 @@ kind_fits : (model : Model) (line : List ℕ) (form : GoalForm) (number : ℕ) (
 unfolding goal_of_kind places_in
 kind_fits model line form number kind goal there e =
     let named = if_ok (list_all (names_free line kind.params) form.presets) _ fault.UnknownName goal e in
-    let ranged = if_ok (is_in_range model.horizon form) _ fault.Range goal named.1 in
+    let ranged = if_ok (is_in_range model.horizon form) _ fault.OutOfRange goal named.1 in
     let placed = bind_ok (places_in line form.presets kind.params) (λ places. Ok (record { number = form.number; kind = number; earliest = form.earliest; latest = form.latest; must = form.must; presets = places; dropped = false })) goal ranged.1 in
     let outer = and_parts (nat_le 1 form.number && nat_le form.number 1000000000) (nat_le form.earliest form.latest && nat_lt form.latest model.horizon) ranged.0 in
     let sizes = and_parts (nat_le 1 form.number) (nat_le form.number 1000000000) outer.0 in
@@ -112,7 +112,7 @@ goal_fits model line tokens goal e =
 level_fits : (model : Model) (number : ℕ) (value : Value) (m : Message) → number < length model.timelines → IfSome (slice_get model.timelines number) IsLevel → level_by number value ≡ Ok m → IsWithin model m
 level_fits model number (said.Name name) m in_lines level e = absurd (cc)
 level_fits model number (said.Number n) m in_lines level e =
-    let small = if_ok (nat_le n 1000000000000) (Ok (message.TeleLevel number (pos n))) fault.Range m e in
+    let small = if_ok (nat_le n 1000000000000) (Ok (message.TeleLevel number (pos n))) fault.OutOfRange m e in
     let same : message.TeleLevel number (pos n) ≡ m = cc (small.1) in
     let most : n ≤ 1000000000000 = leb-true _ _ small.0 in
     subst (λ (x : Message). IsWithin model x) same (in_lines, level, omega (arith, ints), omega (arith, ints))
@@ -164,7 +164,7 @@ tick_fits model (t ∷ u ∷ more) m e = absurd (cc)
 
 ended_fits : (model : Model) (id moment : ℕ) (m : Message) → ended_by model.horizon id moment ≡ Ok m → IsWithin model m
 ended_fits model id moment m e =
-    let within = if_ok (nat_le moment model.horizon) (Ok (message.Until id moment)) fault.Range m e in
+    let within = if_ok (nat_le moment model.horizon) (Ok (message.Until id moment)) fault.OutOfRange m e in
     let same : message.Until id moment ≡ m = cc (within.1) in
     subst (λ (x : Message). IsWithin model x) same (leb-true _ _ within.0)
 

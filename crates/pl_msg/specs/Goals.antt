@@ -7,7 +7,7 @@ use Rattle.pl_model.specs.declared.parameters.Param.{Param}
 use Rattle.pl_model.specs.declared.kinds.Kind.{Kind}
 use Rattle.pl_model.specs.declared.whole.Model.{Model}
 use Rattle.pl_facts.specs.declared.goal.Goal.{Goal}
-use Rattle.pl_msg.specs.declared.fault.MsgFault.TheVariants as fault
+use Rattle.pl_msg.specs.declared.fault.ParseFault.TheVariants as fault
 use Rattle.pl_msg.specs.declared.presets.Preset.{Preset}
 use Rattle.pl_msg.specs.declared.forms.GoalForm.{GoalForm}
 use Rattle.pl_lists.specs.Judgements.{◌>>=◌, each_made}
@@ -85,7 +85,7 @@ given line ps param = if is_free param.origin then value_of line ps param.name e
 -- from the parameter's low to its high
 abbrev pub place_in : Param → Option ℕ → Read (Option ℤ)
 place_in param None = Ok None
-place_in param (Some value) = if int_le param.low (pos value) && int_le (pos value) param.high then Ok (Some (pos value)) else Err fault.Range
+place_in param (Some value) = if int_le param.low (pos value) && int_le (pos value) param.high then Ok (Some (pos value)) else Err fault.OutOfRange
 
 -- one place for each parameter: the preset of its name, or none
 unfoldable pub places_in : List ℕ → List Preset → List Param → Read (List (Option ℤ))
@@ -99,7 +99,7 @@ goal_of_kind horizon line form number kind =
     if list_all (names_free line kind.params) form.presets
     then (if is_in_range horizon form
     then (places_in line form.presets kind.params >>= λ places. Ok (record { number = form.number; kind = number; earliest = form.earliest; latest = form.latest; must = form.must; presets = places; dropped = false }))
-    else Err fault.Range)
+    else Err fault.OutOfRange)
     else Err fault.UnknownName
 
 abbrev pub goal_with : ℕ → List ℕ → GoalForm → Option (ℕ × Kind) → Read Goal

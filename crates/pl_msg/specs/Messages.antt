@@ -3,7 +3,7 @@
 use Rattle.std.specs.Prelude.{ℕ, nat_le, List, [], ◌∷◌, if◌then◌else◌, codes, Ok, Err}
 use Rattle.pl_text.specs.declared.token.Token.{Token}
 use Rattle.pl_model.specs.declared.whole.Model.{Model}
-use Rattle.pl_msg.specs.declared.fault.MsgFault.TheVariants as fault
+use Rattle.pl_msg.specs.declared.fault.ParseFault.TheVariants as fault
 use Rattle.pl_msg.specs.declared.message.Message.{Message}
 use Rattle.pl_msg.specs.declared.message.Message.TheVariants as message
 use Rattle.pl_lists.specs.Judgements.{◌>>=◌}
@@ -18,7 +18,7 @@ tick_in _ = Err fault.BadLine
 
 -- The activity of this id ends at the moment: at most the horizon, whatever the id is.
 abbrev pub ended_by : ℕ → ℕ → ℕ → Read Message
-ended_by horizon id moment = if nat_le moment horizon then Ok (message.Until id moment) else Err fault.Range
+ended_by horizon id moment = if nat_le moment horizon then Ok (message.Until id moment) else Err fault.OutOfRange
 
 abbrev pub until_in : Model → List Token → Read Message
 until_in model (id ∷ moment ∷ []) = number_in id.kind >>= λ i. number_in moment.kind >>= λ m. ended_by model.horizon i m

@@ -1,19 +1,19 @@
 -- What is read of a line, or the fault that it has.
 use Rattle.std.specs.Prelude.{Bool, true, false, Result}
 use Rattle.pl_lists.specs.Judgements as judged
-use Rattle.pl_msg.specs.declared.fault.MsgFault.{MsgFault}
-use Rattle.pl_msg.specs.declared.fault.MsgFault.TheVariants as fault
+use Rattle.pl_msg.specs.declared.fault.ParseFault.{ParseFault}
+use Rattle.pl_msg.specs.declared.fault.ParseFault.TheVariants as fault
 
 abbrev pub Read : Type 0 → Type 0
-Read X = Result X MsgFault
+Read X = Result X ParseFault
 
 -- the one fault that is not the line's
-abbrev pub is_memory : MsgFault → Bool
+abbrev pub is_memory : ParseFault → Bool
 is_memory fault.Memory = true
 is_memory e = false
 
 -- A call gave what is meant, or ran out of memory.
-abbrev pub Fails : {X : Type 0} → MsgFault → Read X → Type 0
+abbrev pub Fails : {X : Type 0} → ParseFault → Read X → Type 0
 Fails e meant = judged.Fails is_memory e meant
 
 abbrev pub Gives : {X : Type 0} → Read X → Read X → Type 0

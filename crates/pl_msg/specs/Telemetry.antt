@@ -7,7 +7,7 @@ use Rattle.pl_text.specs.Tokens.{token_text}
 use Rattle.pl_model.specs.declared.timelines.Timeline.{Timeline}
 use Rattle.pl_model.specs.declared.timelines.Timeline.TheVariants as timeline
 use Rattle.pl_model.specs.declared.whole.Model.{Model}
-use Rattle.pl_msg.specs.declared.fault.MsgFault.TheVariants as fault
+use Rattle.pl_msg.specs.declared.fault.ParseFault.TheVariants as fault
 use Rattle.pl_msg.specs.declared.message.Message.{Message}
 use Rattle.pl_msg.specs.declared.message.Message.TheVariants as message
 use Rattle.pl_msg.specs.declared.telemetry.Value.{Value}
@@ -25,8 +25,8 @@ value_by line t (kind.Symbol b) = Err fault.BadLine
 
 -- of a level: a number up to 1,000,000,000,000
 abbrev pub level_by : ℕ → Value → Read Message
-level_by number (said.Number n) = if nat_le n 1000000000000 then Ok (message.TeleLevel number (pos n)) else Err fault.Range
-level_by number (said.Name name) = Err fault.Range
+level_by number (said.Number n) = if nat_le n 1000000000000 then Ok (message.TeleLevel number (pos n)) else Err fault.OutOfRange
+level_by number (said.Name name) = Err fault.OutOfRange
 
 abbrev pub state_with : ℕ → Option ℕ → Read Message
 state_with number None = Err fault.UnknownName

@@ -6,7 +6,7 @@ use Rattle.pl_text.specs.declared.token.TokenKind.TheVariants as kind
 use Rattle.pl_text.specs.declared.fault.TextFault.{TextFault}
 use Rattle.pl_text.specs.Tokens.{token_text, tokens_of}
 use Rattle.pl_text.specs.Words.{is_name}
-use Rattle.pl_msg.specs.declared.fault.MsgFault.TheVariants as fault
+use Rattle.pl_msg.specs.declared.fault.ParseFault.TheVariants as fault
 use Rattle.pl_msg.specs.Reads.{Read}
 
 -- whether the token is written so

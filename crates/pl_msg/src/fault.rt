@@ -1,40 +1,40 @@
 use std::alloc::{AllocError, AllocFailed};
 use thiserror::Error;
 
-/// Why a line is no message.
+/// Why a line is no message, no preference or no rate.
 #[derive(Clone, Copy, Debug, PartialEq, Eq, Error)]
-pub enum MsgFault {
-    /// None of the forms of a message, or a preset's name stands twice.
+pub enum ParseFault {
+    /// None of the forms that such a line may have, or a preset's name stands twice.
     #[error("bad line")]
     BadLine,
-    /// A name that the model does not have where it stands.
+    /// A name that stands where the model has nothing of that name.
     #[error("unknown name")]
     UnknownName,
     /// A number outside its limits.
     #[error("out of range")]
-    Range,
+    OutOfRange,
     #[error("out of memory")]
     Memory,
 }
 
-impl From<AllocError> for MsgFault {
+impl From<AllocError> for ParseFault {
     ghost use Rattle.std.specs.Prelude.{◌≡◌};
-    ghost use Rattle.pl_msg.specs.declared.fault.MsgFault.TheVariants.{Memory};
+    ghost use Rattle.pl_msg.specs.declared.fault.ParseFault.TheVariants.{Memory};
 
     ghost from_gives = { λ _ e. e ≡ Memory };
 
-    fn from(_: AllocError) -> MsgFault {
-        MsgFault::Memory
+    fn from(_: AllocError) -> ParseFault {
+        ParseFault::Memory
     }
 }
 
-impl<T: Drop> From<AllocFailed<T>> for MsgFault {
+impl<T: Drop> From<AllocFailed<T>> for ParseFault {
     ghost use Rattle.std.specs.Prelude.{◌≡◌};
-    ghost use Rattle.pl_msg.specs.declared.fault.MsgFault.TheVariants.{Memory};
+    ghost use Rattle.pl_msg.specs.declared.fault.ParseFault.TheVariants.{Memory};
 
     ghost from_gives = { λ _ e. e ≡ Memory };
 
-    fn from(_: AllocFailed<T>) -> MsgFault {
-        MsgFault::Memory
+    fn from(_: AllocFailed<T>) -> ParseFault {
+        ParseFault::Memory
     }
 }

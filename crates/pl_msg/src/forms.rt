@@ -2,7 +2,7 @@ ghost use Rattle.std.specs.Prelude.{◌≡◌};
 ghost use Rattle.pl_msg.specs.Reads.{Gives};
 ghost use Rattle.pl_msg.specs.Goals.{must_in, form_in};
 
-use crate::fault::MsgFault;
+use crate::fault::ParseFault;
 use crate::presets::{Preset, presets_of};
 use crate::words::{name_of, number_of, says};
 use pl_lists::Items;
@@ -20,7 +20,7 @@ pub struct GoalForm {
     pub presets: Items<Preset>,
 }
 
-fn must_of(line: &[u8], token: &Token) -> Result<bool, MsgFault>
+fn must_of(line: &[u8], token: &Token) -> Result<bool, ParseFault>
     ensures { result ≡ must_in line.now token.now }
 {
     if says(line, token, b"must") {
@@ -28,13 +28,13 @@ fn must_of(line: &[u8], token: &Token) -> Result<bool, MsgFault>
     } else if says(line, token, b"may") {
         Ok(false)
     } else {
-        Err(MsgFault::BadLine)
+        Err(ParseFault::BadLine)
     }
 }
 
 /// What is written behind the word `goal`.
 #[tactic(auto, unfolding(crate::specs::Goals::form_in))]
-pub fn form_of(alloc: Global, line: &[u8], tokens: &[Token]) -> Result<GoalForm, MsgFault>
+pub fn form_of(alloc: Global, line: &[u8], tokens: &[Token]) -> Result<GoalForm, ParseFault>
     ensures { Gives result (form_in line.now tokens.now) }
 {
     match tokens {
@@ -46,6 +46,6 @@ pub fn form_of(alloc: Global, line: &[u8], tokens: &[Token]) -> Result<GoalForm,
             must: must_of(line, will)?,
             presets: presets_of(alloc, line, presets)?,
         }),
-        _ => Err(MsgFault::BadLine),
+        _ => Err(ParseFault::BadLine),
     }
 }

@@ -5,7 +5,7 @@ ghost use Rattle.pl_msg.specs.Reads.{Gives};
 ghost use Rattle.pl_msg.specs.Names.{kind_named};
 ghost use Rattle.pl_msg.specs.Goals.{names_free, is_in_range, given, place_in, places_in, goal_of_kind, goal_with, goal_in};
 
-use crate::fault::MsgFault;
+use crate::fault::ParseFault;
 use crate::forms::{GoalForm, form_of};
 use crate::names::{is_free, kind_named};
 use crate::presets::{Preset, value_of};
@@ -51,7 +51,7 @@ fn given(line: &[u8], presets: &[Preset], param: &Param) -> Option<u64>
     }
 }
 
-fn place_of(param: &Param, value: Option<u64>) -> Result<Option<i64>, MsgFault>
+fn place_of(param: &Param, value: Option<u64>) -> Result<Option<i64>, ParseFault>
     ensures { result ≡ place_in param.now value }
 {
     match value {
@@ -61,7 +61,7 @@ fn place_of(param: &Param, value: Option<u64>) -> Result<Option<i64>, MsgFault>
             if i128::from(param.low) <= value && value <= i128::from(param.high) {
                 Ok(Some(value as i64))
             } else {
-                Err(MsgFault::Range)
+                Err(ParseFault::OutOfRange)
             }
         }
     }
@@ -74,7 +74,7 @@ fn places_of(
     line: &[u8],
     presets: &[Preset],
     params: &[Param],
-) -> Result<Items<Option<i64>>, MsgFault>
+) -> Result<Items<Option<i64>>, ParseFault>
     ensures { Gives result (places_in line.now presets.now params.now) }
 {
     let mut places = Items::new(alloc);
@@ -92,15 +92,15 @@ fn goal_of_kind(
     form: &GoalForm,
     number: u32,
     kind: &Kind,
-) -> Result<Goal, MsgFault>
+) -> Result<Goal, ParseFault>
     ensures { Gives result (goal_of_kind horizon line.now form.now number kind.now) }
 {
     let params = kind.params.as_slice();
     if !all_name_free(line, params, form.presets.as_slice()) {
-        return Err(MsgFault::UnknownName);
+        return Err(ParseFault::UnknownName);
     }
     if !is_in_range(horizon, form) {
-        return Err(MsgFault::Range);
+        return Err(ParseFault::OutOfRange);
     }
     let presets = places_of(alloc, line, form.presets.as_slice(), params)?;
     Ok(Goal {
@@ -114,13 +114,13 @@ fn goal_of_kind(
     })
 }
 
-fn goal_with(alloc: Global, model: &Model, line: &[u8], form: &GoalForm) -> Result<Goal, MsgFault>
+fn goal_with(alloc: Global, model: &Model, line: &[u8], form: &GoalForm) -> Result<Goal, ParseFault>
     requires { length model.now.kinds ≤ 2 ^ 32 }
     ensures { Gives result (goal_with model.now.horizon line.now form.now (kind_named model.now (token_text line.now form.now.kind))) }
 {
     match kind_named(model, token_text(line, &form.kind)) {
         Some((number, kind)) => goal_of_kind(alloc, model.horizon, line, form, number, kind),
-        None => Err(MsgFault::UnknownName),
+        None => Err(ParseFault::UnknownName),
     }
 }
 
@@ -131,7 +131,7 @@ pub fn goal_of(
     model: &Model,
     line: &[u8],
     tokens: &[Token],
-) -> Result<Goal, MsgFault>
+) -> Result<Goal, ParseFault>
     requires { length model.now.kinds ≤ 2 ^ 32 }
     ensures { Gives result (goal_in model.now line.now tokens.now) }
 {

@@ -1,5 +1,5 @@
 //! Message lines: goals, telemetry, the moment, measured ends, the withdrawal of what is committed and has not begun,
-//! and the end.
+//! and the end. And what other lines about a model are read by: their words, their names, their faults.
 #![tactic(auto)]
 
 mod fault;
@@ -13,8 +13,9 @@ mod sharing;
 mod telemetry;
 mod words;
 
-pub use fault::MsgFault;
+pub use fault::ParseFault;
 pub use message::Message;
+pub use names::{kind_of, level_of};
 pub use reading::read_message;
 pub use sharing::shared_types;
-pub use words::says;
+pub use words::{name_of, number_of, says, tokens_of};

@@ -1,8 +1,12 @@
-ghost use Rattle.std.specs.Prelude.{◌≡◌, ◌<◌, ◌≤◌, ◌^◌, length, option_map, IfSome, Some, slice_get, All};
-ghost use Rattle.pl_msg.specs.Names.{kind_named, timeline_name, timeline_named, state_named, is_free};
+ghost use Rattle.std.specs.Prelude.{◌≡◌, ◌<◌, ◌≤◌, ◌^◌, length, option_map, IfOk, IfSome, Some, slice_get, All};
+ghost use Rattle.std.specs.Result.{result_map_both};
+ghost use Rattle.pl_model.specs.Checked.{IsChecked};
+ghost use Rattle.pl_msg.specs.Names.{kind_named, timeline_name, timeline_named, state_named, is_free, kind_in, level_in};
 ghost use Rattle.pl_msg.specs.Limits.{HasFewStates};
 
+use crate::fault::ParseFault;
 use pl_model::{Kind, Model, Name, Origin, Timeline};
+use pl_text::{Token, token_text};
 
 /// The kind of this name, with its number.
 pub fn kind_named<'a>(model: &'a Model, name: &[u8]) -> Option<(u32, &'a Kind)>
@@ -64,5 +68,33 @@ pub fn is_free(origin: &Origin) -> bool
     match origin {
         Origin::Free(_) => true,
         Origin::Dependent(_) => false,
+    }
+}
+
+/// The kind of a checked model that a token of a line names, with its number.
+pub fn kind_of<'a>(
+    model: &'a Model,
+    line: &[u8],
+    token: &Token,
+) -> Result<(u32, &'a Kind), ParseFault>
+    requires { IsChecked model.now }
+    ensures value { result_map_both (λ p. (p.0, p.1.now)) (λ e. e) result ≡ kind_in model.now line.now token.now }
+    ensures few { IfOk result (λ p. length p.1.now.params ≤ 16) }
+{
+    match kind_named(model, token_text(line, token)) {
+        Some(found) => Ok(found),
+        None => Err(ParseFault::UnknownName),
+    }
+}
+
+/// The number of the level of a checked model that a token of a line names.
+#[tactic(auto, using(crate::proofs::Naming::is_numbered_model))]
+pub fn level_of(model: &Model, line: &[u8], token: &Token) -> Result<u32, ParseFault>
+    requires { IsChecked model.now }
+    ensures { result ≡ level_in model.now line.now token.now }
+{
+    match timeline_named(model, token_text(line, token)) {
+        Some((number, Timeline::Level { .. })) => Ok(number),
+        _ => Err(ParseFault::UnknownName),
     }
 }

@@ -3,7 +3,7 @@ ghost use Rattle.std.specs.List.{list_any};
 ghost use Rattle.pl_msg.specs.Reads.{Gives, Shows};
 ghost use Rattle.pl_msg.specs.Goals.{preset_in, preset_at, is_named, are_distinct, presets_in, each_preset, value_of};
 
-use crate::fault::MsgFault;
+use crate::fault::ParseFault;
 use crate::words::{name_of, number_of, says};
 use pl_lists::Items;
 use pl_text::{Token, token_text};
@@ -17,11 +17,11 @@ pub struct Preset {
 }
 
 #[tactic(auto, unfolding(crate::specs::Goals::preset_in))]
-fn preset_of(line: &[u8], name: &Token, equals: &Token, value: &Token) -> Result<Preset, MsgFault>
+fn preset_of(line: &[u8], name: &Token, equals: &Token, value: &Token) -> Result<Preset, ParseFault>
     ensures { result ≡ preset_in line.now name.now equals.now value.now }
 {
     if !says(line, equals, b"=") {
-        return Err(MsgFault::BadLine);
+        return Err(ParseFault::BadLine);
     }
     let name = name_of(line, name)?;
     let value = number_of(value)?;
@@ -29,17 +29,17 @@ fn preset_of(line: &[u8], name: &Token, equals: &Token, value: &Token) -> Result
 }
 
 /// The preset at the front of the tokens, and what is behind it.
-fn preset_at<'a>(line: &[u8], tokens: &'a [Token]) -> Result<(Preset, &'a [Token]), MsgFault>
+fn preset_at<'a>(line: &[u8], tokens: &'a [Token]) -> Result<(Preset, &'a [Token]), ParseFault>
     ensures preset { Shows (λ p. (p.0, p.1.now)) result (preset_at line.now tokens.now) }
     ensures shorter { IfOk result (λ p. length p.1.now < length tokens.now) }
 {
     match tokens {
         [name, equals, value, more @ ..] => Ok((preset_of(line, name, equals, value)?, more)),
-        _ => Err(MsgFault::BadLine),
+        _ => Err(ParseFault::BadLine),
     }
 }
 
-fn each_preset(alloc: Global, line: &[u8], tokens: &[Token]) -> Result<Items<Preset>, MsgFault>
+fn each_preset(alloc: Global, line: &[u8], tokens: &[Token]) -> Result<Items<Preset>, ParseFault>
     ensures { Gives result (each_preset line.now tokens.now) }
 {
     let mut presets = Items::new(alloc);
@@ -80,14 +80,14 @@ fn are_distinct(line: &[u8], presets: &[Preset]) -> bool
 
 /// The presets of a goal, each of another name.
 #[tactic(auto, unfolding(crate::specs::Goals::presets_in))]
-pub fn presets_of(alloc: Global, line: &[u8], tokens: &[Token]) -> Result<Items<Preset>, MsgFault>
+pub fn presets_of(alloc: Global, line: &[u8], tokens: &[Token]) -> Result<Items<Preset>, ParseFault>
     ensures { Gives result (presets_in line.now tokens.now) }
 {
     let presets = each_preset(alloc, line, tokens)?;
     if are_distinct(line, presets.as_slice()) {
         Ok(presets)
     } else {
-        Err(MsgFault::BadLine)
+        Err(ParseFault::BadLine)
     }
 }
 

@@ -3,7 +3,7 @@ ghost use Rattle.pl_msg.specs.Reads.{Gives};
 ghost use Rattle.pl_msg.specs.Messages.{tick_in, ended_by, until_in, halt_in, end_in, said_in, message_of};
 ghost use Rattle.pl_msg.specs.Limits.{IsNumbered, IsWithin};
 
-use crate::fault::MsgFault;
+use crate::fault::ParseFault;
 use crate::goals::goal_of;
 use crate::message::Message;
 use crate::telemetry::telemetry_of;
@@ -12,27 +12,27 @@ use pl_model::Model;
 use pl_text::Token;
 use std::alloc::Global;
 
-fn tick_of(tokens: &[Token]) -> Result<Message, MsgFault>
+fn tick_of(tokens: &[Token]) -> Result<Message, ParseFault>
     ensures { result ≡ tick_in tokens.now }
 {
     match tokens {
         [moment] => Ok(Message::Tick(number_of(moment)?)),
-        _ => Err(MsgFault::BadLine),
+        _ => Err(ParseFault::BadLine),
     }
 }
 
 /// A moment past the horizon is out of range, whatever the id is.
-fn ended_by(model: &Model, id: u64, moment: u64) -> Result<Message, MsgFault>
+fn ended_by(model: &Model, id: u64, moment: u64) -> Result<Message, ParseFault>
     ensures { result ≡ ended_by model.now.horizon id moment }
 {
     if moment <= u64::from(model.horizon) {
         Ok(Message::Until(id, moment as u32))
     } else {
-        Err(MsgFault::Range)
+        Err(ParseFault::OutOfRange)
     }
 }
 
-fn until_of(model: &Model, tokens: &[Token]) -> Result<Message, MsgFault>
+fn until_of(model: &Model, tokens: &[Token]) -> Result<Message, ParseFault>
     ensures { result ≡ until_in model.now tokens.now }
 {
     match tokens {
@@ -41,25 +41,25 @@ fn until_of(model: &Model, tokens: &[Token]) -> Result<Message, MsgFault>
             let moment = number_of(moment)?;
             ended_by(model, id, moment)
         }
-        _ => Err(MsgFault::BadLine),
+        _ => Err(ParseFault::BadLine),
     }
 }
 
-fn halt_of(tokens: &[Token]) -> Result<Message, MsgFault>
+fn halt_of(tokens: &[Token]) -> Result<Message, ParseFault>
     ensures { result ≡ halt_in tokens.now }
 {
     match tokens {
         [] => Ok(Message::Halt),
-        _ => Err(MsgFault::BadLine),
+        _ => Err(ParseFault::BadLine),
     }
 }
 
-fn end_of(tokens: &[Token]) -> Result<Message, MsgFault>
+fn end_of(tokens: &[Token]) -> Result<Message, ParseFault>
     ensures { result ≡ end_in tokens.now }
 {
     match tokens {
         [] => Ok(Message::End),
-        _ => Err(MsgFault::BadLine),
+        _ => Err(ParseFault::BadLine),
     }
 }
 
@@ -70,7 +70,7 @@ fn said_by(
     line: &[u8],
     word: &Token,
     tokens: &[Token],
-) -> Result<Message, MsgFault>
+) -> Result<Message, ParseFault>
     requires { IsNumbered model.now }
     ensures { Gives result (said_in model.now line.now (word.now ∷ tokens.now)) }
 {
@@ -87,24 +87,29 @@ fn said_by(
     } else if says(line, word, b"end") {
         end_of(tokens)
     } else {
-        Err(MsgFault::BadLine)
+        Err(ParseFault::BadLine)
     }
 }
 
 #[tactic(auto, unfolding(crate::specs::Messages::said_in))]
-fn said_of(alloc: Global, model: &Model, line: &[u8], tokens: &[Token]) -> Result<Message, MsgFault>
+fn said_of(
+    alloc: Global,
+    model: &Model,
+    line: &[u8],
+    tokens: &[Token],
+) -> Result<Message, ParseFault>
     requires { IsNumbered model.now }
     ensures { Gives result (said_in model.now line.now tokens.now) }
 {
     match tokens {
         [word, tokens @ ..] => said_by(alloc, model, line, word, tokens),
-        [] => Err(MsgFault::BadLine),
+        [] => Err(ParseFault::BadLine),
     }
 }
 
 /// The message of a line, for a model as `check` answers it.
 #[tactic(auto, using(crate::proofs::Within::said_fits), unfolding(crate::specs::Messages::message_of))]
-pub fn read_message(alloc: Global, line: &[u8], model: &Model) -> Result<Message, MsgFault>
+pub fn read_message(alloc: Global, line: &[u8], model: &Model) -> Result<Message, ParseFault>
     requires numbered { IsNumbered model.now }
     requires short { length line.now < 2 ^ 32 }
     // The message or the first fault, unless memory runs out.

@@ -4,7 +4,7 @@ ghost use Rattle.pl_msg.specs.Telemetry.{value_by, level_by, state_by, told_by, 
 ghost use Rattle.pl_msg.specs.Names.{timeline_named};
 ghost use Rattle.pl_msg.specs.Limits.{IsNumbered};
 
-use crate::fault::MsgFault;
+use crate::fault::ParseFault;
 use crate::message::Message;
 use crate::names::{state_named, timeline_named};
 use crate::words::name_of;
@@ -18,17 +18,17 @@ pub enum Value {
     Name(Token),
 }
 
-fn value_of(line: &[u8], token: &Token) -> Result<Value, MsgFault>
+fn value_of(line: &[u8], token: &Token) -> Result<Value, ParseFault>
     ensures { result ≡ value_by line.now token.now token.now.kind }
 {
     match token.kind {
         TokenKind::Number(number) => Ok(Value::Number(number)),
         TokenKind::Name => Ok(Value::Name(name_of(line, token)?)),
-        TokenKind::Symbol(_) => Err(MsgFault::BadLine),
+        TokenKind::Symbol(_) => Err(ParseFault::BadLine),
     }
 }
 
-fn level_of(number: u32, value: Value) -> Result<Message, MsgFault>
+fn level_of(number: u32, value: Value) -> Result<Message, ParseFault>
     ensures { result ≡ level_by number value }
 {
     match value {
@@ -36,33 +36,38 @@ fn level_of(number: u32, value: Value) -> Result<Message, MsgFault>
             if value <= 1_000_000_000_000 {
                 Ok(Message::TeleLevel(number, value as i64))
             } else {
-                Err(MsgFault::Range)
+                Err(ParseFault::OutOfRange)
             }
         }
-        Value::Name(_) => Err(MsgFault::Range),
+        Value::Name(_) => Err(ParseFault::OutOfRange),
     }
 }
 
-fn state_of(number: u32, states: &[Name], line: &[u8], value: Value) -> Result<Message, MsgFault>
+fn state_of(number: u32, states: &[Name], line: &[u8], value: Value) -> Result<Message, ParseFault>
     requires { length states.now ≤ 2 ^ 32 }
     ensures { result ≡ state_by number states.now line.now value }
 {
     match value {
-        Value::Number(_) => Err(MsgFault::UnknownName),
+        Value::Number(_) => Err(ParseFault::UnknownName),
         Value::Name(name) => match state_named(states, token_text(line, &name)) {
             Some(state) => Ok(Message::TeleState(number, state)),
-            None => Err(MsgFault::UnknownName),
+            None => Err(ParseFault::UnknownName),
         },
     }
 }
 
-fn told_of(model: &Model, line: &[u8], timeline: &Token, value: Value) -> Result<Message, MsgFault>
+fn told_of(
+    model: &Model,
+    line: &[u8],
+    timeline: &Token,
+    value: Value,
+) -> Result<Message, ParseFault>
     requires { IsNumbered model.now }
     ensures { result ≡ told_by line.now value (timeline_named model.now (token_text line.now timeline.now)) }
 {
     match timeline_named(model, token_text(line, timeline)) {
-        None => Err(MsgFault::UnknownName),
-        Some((_, Timeline::Capacity { .. })) => Err(MsgFault::UnknownName),
+        None => Err(ParseFault::UnknownName),
+        Some((_, Timeline::Capacity { .. })) => Err(ParseFault::UnknownName),
         Some((number, Timeline::Level { .. })) => level_of(number, value),
         Some((number, Timeline::States { states, .. })) => {
             state_of(number, states.as_slice(), line, value)
@@ -72,7 +77,7 @@ fn told_of(model: &Model, line: &[u8], timeline: &Token, value: Value) -> Result
 
 /// The telemetry that is written behind the word `tele`.
 #[tactic(auto, unfolding(crate::specs::Telemetry::telemetry_in))]
-pub fn telemetry_of(model: &Model, line: &[u8], tokens: &[Token]) -> Result<Message, MsgFault>
+pub fn telemetry_of(model: &Model, line: &[u8], tokens: &[Token]) -> Result<Message, ParseFault>
     requires { IsNumbered model.now }
     ensures { result ≡ telemetry_in model.now line.now tokens.now }
 {
@@ -82,6 +87,6 @@ pub fn telemetry_of(model: &Model, line: &[u8], tokens: &[Token]) -> Result<Mess
             let value = value_of(line, value)?;
             told_of(model, line, &timeline, value)
         }
-        _ => Err(MsgFault::BadLine),
+        _ => Err(ParseFault::BadLine),
     }
 }

@@ -2,7 +2,7 @@ ghost use Rattle.std.specs.Prelude.{◌≡◌, ◌<◌, ◌^◌, length};
 ghost use Rattle.pl_msg.specs.Reads.{Shows};
 ghost use Rattle.pl_msg.specs.Words.{says, number_in, name_in, tokens_in};
 
-use crate::fault::MsgFault;
+use crate::fault::ParseFault;
 use pl_text::{TextFault, Token, TokenKind, is_name, token_text, tokens};
 use std::alloc::Global;
 
@@ -14,36 +14,36 @@ pub fn says(line: &[u8], token: &Token, text: &[u8]) -> bool
 }
 
 /// The number that the token is, or else the line is bad.
-pub fn number_of(token: &Token) -> Result<u64, MsgFault>
+pub fn number_of(token: &Token) -> Result<u64, ParseFault>
     ensures { result ≡ number_in token.now.kind }
 {
     match token.kind {
         TokenKind::Number(number) => Ok(number),
-        TokenKind::Name => Err(MsgFault::BadLine),
-        TokenKind::Symbol(_) => Err(MsgFault::BadLine),
+        TokenKind::Name => Err(ParseFault::BadLine),
+        TokenKind::Symbol(_) => Err(ParseFault::BadLine),
     }
 }
 
 /// The token, where it is a name.
 #[tactic(auto, unfolding(crate::specs::Words::name_in))]
-pub fn name_of(line: &[u8], token: &Token) -> Result<Token, MsgFault>
+pub fn name_of(line: &[u8], token: &Token) -> Result<Token, ParseFault>
     ensures { result ≡ name_in line.now token.now }
 {
     if is_name(token_text(line, token)) {
         Ok(*token)
     } else {
-        Err(MsgFault::BadLine)
+        Err(ParseFault::BadLine)
     }
 }
 
-/// The tokens of a message line; a fault in one makes it a bad line.
-pub fn tokens_of(alloc: Global, line: &[u8]) -> Result<Vec<Token>, MsgFault>
+/// The tokens of a line; a fault in one makes it a bad line.
+pub fn tokens_of(alloc: Global, line: &[u8]) -> Result<Vec<Token>, ParseFault>
     requires { length line.now < 2 ^ 32 }
     ensures { Shows (λ tokens. tokens.items) result (tokens_in line.now) }
 {
     match tokens(alloc, line) {
         Ok(tokens) => Ok(tokens),
-        Err(TextFault::Memory) => Err(MsgFault::Memory),
-        Err(_) => Err(MsgFault::BadLine),
+        Err(TextFault::Memory) => Err(ParseFault::Memory),
+        Err(_) => Err(ParseFault::BadLine),
     }
 }

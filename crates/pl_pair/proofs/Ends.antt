@@ -11,8 +11,8 @@ use Rattle.pl_model.specs.declared.timelines.Timeline.{Timeline}
 use Rattle.pl_model.specs.declared.timelines.Timeline.TheVariants as timeline
 use Rattle.pl_facts.specs.declared.goal.Goal.{Goal}
 use Rattle.pl_facts.specs.Goals.{is_numbered}
-use Rattle.pl_msg.specs.declared.fault.MsgFault.{MsgFault}
-use Rattle.pl_msg.specs.declared.fault.MsgFault.TheVariants as fault
+use Rattle.pl_msg.specs.declared.fault.ParseFault.{ParseFault}
+use Rattle.pl_msg.specs.declared.fault.ParseFault.TheVariants as fault
 use Rattle.pl_msg.specs.declared.message.Message.{Message}
 use Rattle.pl_msg.specs.declared.message.Message.TheVariants as message
 use Rattle.pl_msg.specs.declared.telemetry.Value.{Value}
@@ -57,10 +57,10 @@ measured_ends : (s : PlanState) (o : Option Activity) (moment : ℕ) → is_ende
 measured_ends s None moment = refl
 measured_ends s (Some a) moment = begun_ends (has_begun s a) (nat_le moment a.start)
 
-fault_ends : (e : MsgFault) → is_ended (fault_reply e) ≡ false
+fault_ends : (e : ParseFault) → is_ended (fault_reply e) ≡ false
 fault_ends fault.BadLine = refl
 fault_ends fault.UnknownName = refl
-fault_ends fault.Range = refl
+fault_ends fault.OutOfRange = refl
 fault_ends fault.Memory = refl
 
 -- a message that is read ends nothing
@@ -68,7 +68,7 @@ pub record GoesOn (s : PlanState) (limit : ℕ) (r : Read Message) : Type 0 wher
   pub on : is_ended (read_reply s limit r) ≡ false
 
 module _ (s : PlanState) (limit : ℕ) where
-  bad_line : (e : MsgFault) → GoesOn s limit (Err e)
+  bad_line : (e : ParseFault) → GoesOn s limit (Err e)
   bad_line e = record { on = fault_ends e }
 
   told_on : (line n : ℕ) → GoesOn s limit (Ok (message.TeleState line n))
@@ -95,8 +95,8 @@ module _ (s : PlanState) (limit : ℕ) where
   if_on false x y one other = other
 
   level_on : (n : ℕ) (v : Value) → GoesOn s limit (level_by n v)
-  level_on n (said.Number m) = if_on (nat_le m 1000000000000) _ _ (record { on = refl }) (bad_line fault.Range)
-  level_on n (said.Name name) = bad_line fault.Range
+  level_on n (said.Number m) = if_on (nat_le m 1000000000000) _ _ (record { on = refl }) (bad_line fault.OutOfRange)
+  level_on n (said.Name name) = bad_line fault.OutOfRange
 
   state_on : (n : ℕ) (o : Option ℕ) → GoesOn s limit (state_with n o)
   state_on n None = bad_line fault.UnknownName
@@ -129,7 +129,7 @@ module _ (s : PlanState) (limit : ℕ) where
   ticks_on (a ∷ b ∷ more) = bad_line fault.BadLine
 
   ended_on : (id moment : ℕ) → GoesOn s limit (ended_by s.model.horizon id moment)
-  ended_on id moment = if_on (nat_le moment s.model.horizon) _ _ (until_on id moment) (bad_line fault.Range)
+  ended_on id moment = if_on (nat_le moment s.model.horizon) _ _ (until_on id moment) (bad_line fault.OutOfRange)
 
   untils_on : (ts : List Token) → GoesOn s limit (until_in s.model ts)
   untils_on [] = bad_line fault.BadLine

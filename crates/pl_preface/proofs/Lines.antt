@@ -1,5 +1,5 @@
 -- What stands before a journal, line by line.
-use Rattle.std.proofs.Common.{◌≡◌, ℕ, suc, ◌+◌, ◌≤◌, List, [], ◌∷◌, ◌++◌, length, Bool, true, false, if◌then◌else◌, Option, Some, None, ◌⊎◌, inl, inr, refl, sym, ◌∙◌, ap, subst, add-zero, length-append, arith}
+use Rattle.std.proofs.Common.{◌≡◌, ℕ, suc, ◌+◌, ◌≤◌, List, [], ◌∷◌, ◌++◌, length, Bool, true, false, if◌then◌else◌, Option, None, inl, inr, refl, sym, ◌∙◌, ap, subst, add-zero, length-append, arith}
 use Rattle.std.proofs.lemmas.Bool.{ltb-true}
 use Rattle.std.proofs.lemmas.List.{append-nil}
 use Rattle.std.proofs.lemmas.List.Elements.{All-nil, All-push}
@@ -15,7 +15,7 @@ use Rattle.pl_preface.specs.declared.found.Found.TheVariants as found
 use Rattle.pl_preface.specs.declared.found.Step.{Step}
 use Rattle.pl_preface.specs.declared.found.Step.TheVariants as step
 use Rattle.pl_preface.specs.Prefaces.{Reading, most_items, found_in, step_by, Said, so_far, whole, refused, goes_on, said, FitsFound, FitsStep}
-use Rattle.pl_preface.specs.Gives.{SeesLine, IsBeforeJournal, HasPreface, HasRefusedLine, HasNoJournal, IsRefusal, PrefaceHalts}
+use Rattle.pl_preface.specs.Gives.{SeesLine, IsBeforeJournal, HasPreface, IsRefusal, PrefaceHalts}
 
 abbrev Lines : Type 0
 Lines = List (List ℕ)

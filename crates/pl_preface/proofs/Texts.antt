@@ -1,7 +1,6 @@
 -- Texts one behind another.
 use Rattle.std.proofs.Common.{◌≡◌, ℕ, List, [], ◌∷◌, ◌++◌, append_assoc}
 use Rattle.std.specs.Prelude.{codes}
-use Rattle.pl_preface.specs.Refusals.{line_words}
 
 pub words_joined : (out number words : List ℕ) → out ++ codes "line " ++ number ++ codes ": " ++ words ≡ out ++ (codes "line " ++ (number ++ (codes ": " ++ words)))
 words_joined out number words = simp append_assoc

@@ -1,7 +1,11 @@
 -- What the lines before a journal say: items, up to the line `journal`, or why they are refused.
-use Rattle.std.specs.Prelude.{◌≡◌, ℕ, suc, List, [], ◌∷◌, ◌++◌, length, nat_lt, All, Option, Some, None, Result, Ok, Err, if◌then◌else◌, codes, ⊤}
+use Rattle.std.specs.Prelude.{ℕ, suc, List, [], ◌∷◌, ◌++◌, length, nat_lt, All, Result, Ok, Err, if◌then◌else◌, codes, ⊤}
 use Rattle.pl_input.specs.Words.{is_line_of, is_blank_line}
+use Rattle.pl_msg.specs.declared.fault.ParseFault.{ParseFault}
+use Rattle.pl_msg.specs.declared.fault.ParseFault.TheVariants as fault
+use Rattle.pl_msg.specs.Reads.{Read}
 use Rattle.pl_preface.specs.declared.problem.Problem.{Problem}
+use Rattle.pl_preface.specs.declared.problem.Problem.TheVariants as problem
 use Rattle.pl_preface.specs.declared.refusal.Refusal.{Refusal}
 use Rattle.pl_preface.specs.declared.refusal.Refusal.TheVariants as refusal
 use Rattle.pl_preface.specs.declared.found.Found.{Found}
@@ -20,10 +24,17 @@ most_items = 64
 abbrev pub Reading : Type 0 → Type 0
 Reading X = List ℕ → Result X Problem
 
+-- No line means a want of memory.
+abbrev pub problem_of : ParseFault → Problem
+problem_of fault.BadLine = problem.BadLine
+problem_of fault.UnknownName = problem.UnknownName
+problem_of fault.OutOfRange = problem.OutOfRange
+problem_of fault.Memory = problem.BadLine
+
 -- what a line says, where its fault is told as a problem
-abbrev pub told : {X F : Type 0} → (F → Problem) → Result X F → Result X Problem
-told problem (Ok x) = Ok x
-told problem (Err e) = Err (problem e)
+abbrev pub told : {X : Type 0} → Read X → Result X Problem
+told (Ok x) = Ok x
+told (Err e) = Err (problem_of e)
 
 -- ---- one line
 

@@ -1,7 +1,8 @@
 use crate::asked::Asked;
 use crate::problem::Problem;
 use pl_model::Model;
-use pl_prefs::{Prefer, PreferFault, read_prefer};
+use pl_msg::ParseFault;
+use pl_prefs::{Prefer, read_prefer};
 use std::alloc::{AllocError, Global};
 
 impl Asked for Prefer {
@@ -19,10 +20,10 @@ impl Asked for Prefer {
     ) -> Result<Result<Prefer, Problem>, AllocError> {
         match read_prefer(alloc, model, line) {
             Ok(prefer) => Ok(Ok(prefer)),
-            Err(PreferFault::BadLine) => Ok(Err(Problem::BadLine)),
-            Err(PreferFault::UnknownName) => Ok(Err(Problem::UnknownName)),
-            Err(PreferFault::OutOfRange) => Ok(Err(Problem::OutOfRange)),
-            Err(PreferFault::Memory) => Err(AllocError),
+            Err(ParseFault::BadLine) => Ok(Err(Problem::BadLine)),
+            Err(ParseFault::UnknownName) => Ok(Err(Problem::UnknownName)),
+            Err(ParseFault::OutOfRange) => Ok(Err(Problem::OutOfRange)),
+            Err(ParseFault::Memory) => Err(AllocError),
         }
     }
 }

@@ -1,7 +1,8 @@
 use crate::asked::Asked;
 use crate::problem::Problem;
 use pl_model::Model;
-use pl_rate::{Rate, RateFault, read_rate};
+use pl_msg::ParseFault;
+use pl_rate::{Rate, read_rate};
 use std::alloc::{AllocError, Global};
 
 impl Asked for Rate {
@@ -19,10 +20,10 @@ impl Asked for Rate {
     ) -> Result<Result<Rate, Problem>, AllocError> {
         match read_rate(alloc, model, line) {
             Ok(rate) => Ok(Ok(rate)),
-            Err(RateFault::BadLine) => Ok(Err(Problem::BadLine)),
-            Err(RateFault::UnknownName) => Ok(Err(Problem::UnknownName)),
-            Err(RateFault::OutOfRange) => Ok(Err(Problem::OutOfRange)),
-            Err(RateFault::Memory) => Err(AllocError),
+            Err(ParseFault::BadLine) => Ok(Err(Problem::BadLine)),
+            Err(ParseFault::UnknownName) => Ok(Err(Problem::UnknownName)),
+            Err(ParseFault::OutOfRange) => Ok(Err(Problem::OutOfRange)),
+            Err(ParseFault::Memory) => Err(AllocError),
         }
     }
 }

@@ -1,8 +1,6 @@
 -- The moves that better a plan, and the best of them.
 use Rattle.std.specs.Prelude.{◌≡◌, ◌==◌, ◌&&◌, not, Bool, true, ℤ, int_lt, ◌<ℤ◌, ◌≤ℤ◌, List, [], ◌∷◌, ◌++◌, All, filter, take, Option, Some, None}
 use Rattle.std.specs.List.{flat_map}
-use Rattle.pl_model.specs.declared.parameters.Param.{Param}
-use Rattle.pl_model.specs.Checked.{IsAmount}
 use Rattle.pl_plan.specs.declared.activity.Activity.{Activity}
 use Rattle.pl_plan.specs.declared.repair.RepairMove.{RepairMove}
 use Rattle.pl_semantics.specs.declared.plan_state.PlanState.{PlanState}
@@ -35,10 +33,6 @@ IsProperChange s m = (is_proper s m ≡ true) × IsOfActivities m
 
 abbrev pub AreProperChanges : PlanState → List RepairMove → Type 0
 AreProperChanges s moves = All (IsProperChange s) moves
-
--- the bounds of a parameter, as a checked model has them
-abbrev pub HasAmounts : Param → Type 0
-HasAmounts p = IsAmount p.low × IsAmount p.high
 
 -- ---- those that better the plan
 

@@ -1,63 +1,22 @@
 -- The preference of a line, or its first fault: `prefer KIND early WEIGHT`, `prefer KIND late WEIGHT`, `prefer KIND value NAME WEIGHT`,
 -- or `prefer level TIMELINE WEIGHT`. First the form is looked at, then the names, then the range of the weight.
-use Rattle.std.specs.Prelude.{ℕ, ◌<◌, ℤ, pos, nat_le, ◌≤ℤ◌, ◌&&◌, Bool, true, false, List, [], ◌∷◌, length, slice_get, Option, Some, None, if◌then◌else◌, codes, bytes_eq, Result, Ok, Err}
+use Rattle.std.specs.Prelude.{ℕ, ◌<◌, ℤ, pos, nat_le, ◌≤ℤ◌, ◌&&◌, List, [], ◌∷◌, length, slice_get, Option, Some, None, if◌then◌else◌, codes, bytes_eq, Ok, Err}
 use Rattle.pl_lists.specs.Judgements.{◌>>=◌}
-use Rattle.pl_lists.specs.Judgements as judged
 use Rattle.pl_text.specs.declared.token.Token.{Token}
-use Rattle.pl_text.specs.declared.token.TokenKind.{TokenKind}
-use Rattle.pl_text.specs.declared.token.TokenKind.TheVariants as token
-use Rattle.pl_text.specs.declared.fault.TextFault.{TextFault}
-use Rattle.pl_text.specs.Tokens.{token_text, tokens_of}
-use Rattle.pl_text.specs.Words.{is_name}
-use Rattle.pl_model.specs.declared.kinds.Kind.{Kind}
+use Rattle.pl_text.specs.Tokens.{token_text}
 use Rattle.pl_model.specs.declared.parameters.Param.{Param}
-use Rattle.pl_model.specs.declared.timelines.Timeline.{Timeline}
-use Rattle.pl_model.specs.declared.timelines.Timeline.TheVariants as timeline
 use Rattle.pl_model.specs.declared.whole.Model.{Model}
 use Rattle.pl_model.specs.Checked.{IsLevelLine, params_of}
-use Rattle.pl_msg.specs.Words.{says}
-use Rattle.pl_msg.specs.Names.{first_from, kind_named, timeline_named}
-use Rattle.pl_prefs.specs.declared.fault.PreferFault.{PreferFault}
-use Rattle.pl_prefs.specs.declared.fault.PreferFault.TheVariants as fault
+use Rattle.pl_msg.specs.declared.fault.ParseFault.TheVariants as fault
+use Rattle.pl_msg.specs.Reads.{Read}
+use Rattle.pl_msg.specs.Words.{says, number_in, name_in, tokens_in}
+use Rattle.pl_msg.specs.Names.{first_from, kind_in, level_in}
 use Rattle.pl_prefs.specs.declared.form.PreferForm.{PreferForm}
 use Rattle.pl_prefs.specs.declared.form.PreferForm.TheVariants as form
 use Rattle.pl_prefs.specs.declared.prefer.Prefer.{Prefer}
 use Rattle.pl_prefs.specs.declared.prefer.Prefer.TheVariants as prefer
 
-abbrev pub Read : Type 0 → Type 0
-Read X = Result X PreferFault
-
--- the one fault that is not the line's
-abbrev pub is_memory : PreferFault → Bool
-is_memory fault.Memory = true
-is_memory e = false
-
--- A call gave what is meant, or ran out of memory.
-abbrev pub Gives : {X : Type 0} → Read X → Read X → Type 0
-Gives result meant = judged.Gives is_memory result meant
-
--- the same, of what a value shows
-abbrev pub Shows : {X Y : Type 0} → (X → Y) → Read X → Read Y → Type 0
-Shows view result meant = judged.Shows is_memory view result meant
-
 -- ---- the form
-
--- a line with a fault in its tokens is a bad line
-abbrev pub without_fault : Result (List Token) TextFault → Read (List Token)
-without_fault (Ok tokens) = Ok tokens
-without_fault (Err e) = Err fault.BadLine
-
-abbrev pub tokens_in : List ℕ → Read (List Token)
-tokens_in line = without_fault (tokens_of line)
-
--- the token, where it is a name: a reserved word is none
-unfoldable pub name_in : List ℕ → Token → Read Token
-name_in line t = if is_name (token_text line t) then Ok t else Err fault.BadLine
-
-abbrev pub number_in : TokenKind → Read ℕ
-number_in token.Name = Err fault.BadLine
-number_in (token.Number n) = Ok n
-number_in (token.Symbol b) = Err fault.BadLine
 
 -- by the word behind the kind: `early` or `late`
 unfoldable pub by_start : List ℕ → Token → Token → Token → Read PreferForm
@@ -102,14 +61,6 @@ form_in line (word ∷ tokens) = if says line word (codes "prefer") then preferr
 
 -- ---- the names and the range
 
--- the kind that was found, with its number
-abbrev pub kind_found : Option (ℕ × Kind) → Read (ℕ × Kind)
-kind_found None = Err fault.UnknownName
-kind_found (Some p) = Ok p
-
-abbrev pub kind_by : Model → List ℕ → Token → Read (ℕ × Kind)
-kind_by model line t = kind_found (kind_named model (token_text line t))
-
 -- the parameter of this name, with its number
 abbrev pub param_named : List Param → List ℕ → Option (ℕ × Param)
 param_named params name = first_from (λ p. bytes_eq p.name name) 0 params
@@ -121,42 +72,32 @@ param_found (Some p) = Ok p.0
 abbrev pub param_by : List Param → List ℕ → Token → Read ℕ
 param_by params line t = param_found (param_named params (token_text line t))
 
--- the number of the timeline that was found, if it is a level
-abbrev pub level_found : Option (ℕ × Timeline) → Read ℕ
-level_found None = Err fault.UnknownName
-level_found (Some (n, timeline.Capacity name most)) = Err fault.UnknownName
-level_found (Some (n, timeline.Level name least most start)) = Ok n
-level_found (Some (n, timeline.States name states start any steps)) = Err fault.UnknownName
-
-abbrev pub level_by : Model → List ℕ → Token → Read ℕ
-level_by model line t = level_found (timeline_named model (token_text line t))
-
 -- from 1 to 1,000
 abbrev pub weight_of : ℕ → Read ℤ
 weight_of w = if nat_le 1 w && nat_le w 1000 then Ok (pos w) else Err fault.OutOfRange
 
 unfoldable pub early_with : Model → List ℕ → Token → ℕ → Read Prefer
 early_with model line kind weight = do
-  k ← kind_by model line kind
+  k ← kind_in model line kind
   w ← weight_of weight
   Ok (prefer.Early k.0 w)
 
 unfoldable pub late_with : Model → List ℕ → Token → ℕ → Read Prefer
 late_with model line kind weight = do
-  k ← kind_by model line kind
+  k ← kind_in model line kind
   w ← weight_of weight
   Ok (prefer.Late k.0 w)
 
 unfoldable pub value_with : Model → List ℕ → Token → Token → ℕ → Read Prefer
 value_with model line kind param weight = do
-  k ← kind_by model line kind
+  k ← kind_in model line kind
   p ← param_by k.1.params line param
   w ← weight_of weight
   Ok (prefer.Value k.0 p w)
 
 unfoldable pub level_with : Model → List ℕ → Token → ℕ → Read Prefer
 level_with model line level weight = do
-  l ← level_by model line level
+  l ← level_in model line level
   w ← weight_of weight
   Ok (prefer.Level l w)
 

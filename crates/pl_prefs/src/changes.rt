@@ -1,21 +1,14 @@
 //! The moves that are tried.
-ghost use Rattle.std.specs.Prelude.{◌≡◌, ◌≤◌, ◌++◌, ℕ, pos, map, length, All, OnOk, IfOk, Some, false};
+ghost use Rattle.std.specs.Prelude.{◌≡◌, ◌++◌, pos, map, OnOk, IfOk, Some, false};
 ghost use Rattle.std.specs.List.{flat_map};
-ghost use Rattle.pl_model.specs.Checked.{IsAmount, params_of};
 ghost use Rattle.pl_plan.specs.Activities.{activity_of};
-ghost use Rattle.pl_plan.specs.Fitting.{kind_of};
 ghost use Rattle.pl_plan.specs.Trees.{id_of};
-ghost use Rattle.pl_semantics.specs.PlanStates.{found, numbered, of_found};
+ghost use Rattle.pl_semantics.specs.PlanStates.{found, of_found};
 ghost use Rattle.pl_semantics.specs.Starts.{starting, shift_to};
-ghost use Rattle.pl_semantics.specs.Repairs.{assigns, all_assigns};
-ghost use Rattle.pl_semantics.specs.Whole.{IsWhole};
-ghost use Rattle.pl_cand.specs.Details.{assign_to, assigns_if_free};
-ghost use Rattle.pl_prefs.specs.Betters.{AreProperChanges, HasAmounts, movable, changes_of, changes_in};
+ghost use Rattle.pl_prefs.specs.Betters.{AreProperChanges, movable, changes_of, changes_in};
 
 use pl_board::Board;
-use pl_cand::{places, spread};
-use pl_model::{Expr, Param};
-use pl_moves::is_free;
+use pl_cand::{add_all_assigns, places};
 use pl_plan::{Activity, RepairMove};
 use pl_semantics::PlanState;
 use std::alloc::{AllocError, Global};
@@ -61,109 +54,6 @@ fn add_shifts(
     for start in starts {
         add_shift(state, id, *start, out)?;
     }
-    Ok(())
-}
-
-// Appends an assignment of each of these values to one parameter.
-fn add_values(
-    id: u32,
-    number: u8,
-    values: &[u32],
-    out: &mut Vec<RepairMove>,
-) -> Result<(), AllocError>
-    ensures { OnOk result (out.new.items ≡ out.old.items ++ map (λ value. assign_to id number (pos value)) values.now) }
-{
-    for value in values {
-        out.push(RepairMove::Assign {
-            id,
-            param: number,
-            value: i64::from(*value),
-        })?;
-    }
-    Ok(())
-}
-
-fn natural(value: i64) -> u32
-    requires { IsAmount value }
-    ensures { pos result ≡ value }
-{
-    value as u32
-}
-
-// Appends assignments of values to one parameter, spread over its bounds.
-fn add_assigns(
-    alloc: Global,
-    id: u32,
-    number: u8,
-    param: &Param,
-    out: &mut Vec<RepairMove>,
-) -> Result<(), AllocError>
-    requires { HasAmounts param.now }
-    ensures { OnOk result (out.new.items ≡ out.old.items ++ assigns id (number, param.now)) }
-{
-    let values = spread(alloc, natural(param.low), natural(param.high))?;
-    add_values(id, number, &values, out)?;
-    Ok(())
-}
-
-// Appends assignments to one parameter, if it is free.
-fn add_if_free(
-    alloc: Global,
-    id: u32,
-    bindings: &[(u8, Expr)],
-    number: u8,
-    param: &Param,
-    out: &mut Vec<RepairMove>,
-) -> Result<(), AllocError>
-    requires { HasAmounts param.now }
-    ensures { OnOk result (out.new.items ≡ out.old.items ++ assigns_if_free bindings.now id (number, param.now)) }
-{
-    if is_free(bindings, number, param) {
-        add_assigns(alloc, id, number, param, out)?;
-    }
-    Ok(())
-}
-
-// Appends assignments to each of these parameters that is free.
-fn add_free_assigns(
-    alloc: Global,
-    id: u32,
-    bindings: &[(u8, Expr)],
-    params: &[Param],
-    out: &mut Vec<RepairMove>,
-) -> Result<(), AllocError>
-    requires few { length params.now ≤ 16 }
-    requires amounts { All HasAmounts params.now }
-    ensures { OnOk result (out.new.items ≡ out.old.items ++ flat_map (assigns_if_free bindings.now id) (numbered 0 params.now)) }
-{
-    for (number, param) in params.iter().enumerate() {
-        add_if_free(alloc, id, bindings, number as u8, param, out)?;
-    }
-    Ok(())
-}
-
-// The parameters of its kind.
-fn params_of<'s>(state: &'s PlanState, a: &Activity) -> &'s [Param]
-    requires { IsWhole state.now }
-    ensures value { result.now ≡ params_of (kind_of state.now.model a.now) }
-    ensures few { length result.now ≤ 16 }
-    ensures amounts { All HasAmounts result.now }
-{
-    state.params_of(a)
-}
-
-// Appends assignments to each parameter of the activity that is free.
-#[tactic(auto, using(pl_cand::proofs::Listing::free_all))]
-fn add_all_assigns(
-    alloc: Global,
-    state: &PlanState,
-    a: &Activity,
-    out: &mut Vec<RepairMove>,
-) -> Result<(), AllocError>
-    requires { IsWhole state.now }
-    ensures { OnOk result (out.new.items ≡ out.old.items ++ all_assigns state.now a.now) }
-{
-    add_free_assigns(alloc, a.id, state.bindings_of(a), params_of(state, a), out)?;
     Ok(())
 }
 

@@ -1,10 +1,8 @@
 ghost use Rattle.std.specs.Prelude.{◌≡◌, ◌∷◌, IfOk, ◌<◌, ◌^◌, length};
 ghost use Rattle.pl_prefs.specs.Prefers.{by_start, by_value, kind_form_in, level_form_in, preferred_in, form_in};
 
-use crate::fault::PreferFault;
 use crate::form::PreferForm;
-use crate::words::{name_of, number_of};
-use pl_msg::says;
+use pl_msg::{ParseFault, name_of, number_of, says};
 use pl_text::Token;
 
 // The form by the word `early` or `late`.
@@ -14,7 +12,7 @@ fn start_form(
     kind: Token,
     word: &Token,
     weight: &Token,
-) -> Result<PreferForm, PreferFault>
+) -> Result<PreferForm, ParseFault>
     ensures { result ≡ by_start line.now kind word.now weight.now }
 {
     let number = number_of(weight)?;
@@ -23,7 +21,7 @@ fn start_form(
     } else if says(line, word, b"late") {
         Ok(PreferForm::Late(kind, number))
     } else {
-        Err(PreferFault::BadLine)
+        Err(ParseFault::BadLine)
     }
 }
 
@@ -35,7 +33,7 @@ fn value_form(
     word: &Token,
     param: &Token,
     weight: &Token,
-) -> Result<PreferForm, PreferFault>
+) -> Result<PreferForm, ParseFault>
     ensures { result ≡ by_value line.now kind word.now param.now weight.now }
 {
     if says(line, word, b"value") {
@@ -43,26 +41,26 @@ fn value_form(
         let number = number_of(weight)?;
         Ok(PreferForm::Value(kind, name, number))
     } else {
-        Err(PreferFault::BadLine)
+        Err(ParseFault::BadLine)
     }
 }
 
 // The form behind the name of a kind.
 #[tactic(auto, unfolding(crate::specs::Prefers::kind_form_in, crate::specs::Prefers::behind_kind))]
-fn kind_form(line: &[u8], kind: &Token, tokens: &[Token]) -> Result<PreferForm, PreferFault>
+fn kind_form(line: &[u8], kind: &Token, tokens: &[Token]) -> Result<PreferForm, ParseFault>
     ensures { result ≡ kind_form_in line.now kind.now tokens.now }
 {
     let kind = name_of(line, kind)?;
     match tokens {
         [word, weight] => start_form(line, kind, word, weight),
         [word, param, weight] => value_form(line, kind, word, param, weight),
-        _ => Err(PreferFault::BadLine),
+        _ => Err(ParseFault::BadLine),
     }
 }
 
 // The form behind the word `level`.
 #[tactic(auto, unfolding(crate::specs::Prefers::level_form_in))]
-fn level_form(line: &[u8], tokens: &[Token]) -> Result<PreferForm, PreferFault>
+fn level_form(line: &[u8], tokens: &[Token]) -> Result<PreferForm, ParseFault>
     ensures { result ≡ level_form_in line.now tokens.now }
 {
     match tokens {
@@ -71,17 +69,17 @@ fn level_form(line: &[u8], tokens: &[Token]) -> Result<PreferForm, PreferFault>
             let number = number_of(weight)?;
             Ok(PreferForm::Level(name, number))
         }
-        _ => Err(PreferFault::BadLine),
+        _ => Err(ParseFault::BadLine),
     }
 }
 
 // The form behind the word `prefer`.
 #[tactic(auto, unfolding(crate::specs::Prefers::preferred_in))]
-fn preferred(line: &[u8], tokens: &[Token]) -> Result<PreferForm, PreferFault>
+fn preferred(line: &[u8], tokens: &[Token]) -> Result<PreferForm, ParseFault>
     ensures { result ≡ preferred_in line.now tokens.now }
 {
     match tokens {
-        [] => Err(PreferFault::BadLine),
+        [] => Err(ParseFault::BadLine),
         [subject, tokens @ ..] => {
             if says(line, subject, b"level") {
                 level_form(line, tokens)
@@ -94,16 +92,16 @@ fn preferred(line: &[u8], tokens: &[Token]) -> Result<PreferForm, PreferFault>
 
 /// The form of a line.
 #[tactic(auto, unfolding(crate::specs::Prefers::form_in))]
-pub(crate) fn form_of(line: &[u8], tokens: &[Token]) -> Result<PreferForm, PreferFault>
+pub(crate) fn form_of(line: &[u8], tokens: &[Token]) -> Result<PreferForm, ParseFault>
     ensures { result ≡ form_in line.now tokens.now }
 {
     match tokens {
-        [] => Err(PreferFault::BadLine),
+        [] => Err(ParseFault::BadLine),
         [word, tokens @ ..] => {
             if says(line, word, b"prefer") {
                 preferred(line, tokens)
             } else {
-                Err(PreferFault::BadLine)
+                Err(ParseFault::BadLine)
             }
         }
     }

@@ -4,7 +4,6 @@
 mod changes;
 mod choice;
 mod choosing;
-mod fault;
 mod form;
 mod forms;
 mod gains;
@@ -19,10 +18,8 @@ mod sharing;
 mod stepping;
 mod trying;
 mod weights;
-mod words;
 mod worths;
 
-pub use fault::PreferFault;
 pub use prefer::Prefer;
 pub use reading::read_prefer;
 pub use score_fault::ScoreFault;

@@ -1,34 +1,18 @@
 ghost use Rattle.std.specs.Prelude.{◌≡◌, ◌<◌, ◌≤◌, ◌^◌, length, option_map, IfOk};
-ghost use Rattle.std.specs.Result.{result_map_both};
 ghost use Rattle.pl_model.specs.Checked.{IsChecked};
-ghost use Rattle.pl_msg.specs.Names.{kind_named, timeline_named, timeline_name};
-ghost use Rattle.pl_prefs.specs.Prefers.{Gives, kind_by, param_named, param_by, level_by, weight_of, early_with, late_with, value_with, level_with, prefer_with, prefer_of, IsPreferOf};
+ghost use Rattle.pl_msg.specs.Reads.{Gives};
+ghost use Rattle.pl_prefs.specs.Prefers.{param_named, param_by, weight_of, early_with, late_with, value_with, level_with, prefer_with, prefer_of, IsPreferOf};
 
-use crate::fault::PreferFault;
 use crate::form::PreferForm;
 use crate::forms::form_of;
 use crate::prefer::Prefer;
-use crate::words::tokens_of;
-use pl_model::{Kind, Model, Param, Timeline};
+use pl_model::{Model, Param};
+use pl_msg::{ParseFault, kind_of, level_of, tokens_of};
 use pl_text::{Token, token_text};
 use std::alloc::Global;
 
 /// The greatest weight.
 const MOST: u64 = 1_000;
-
-// The kind of this name, with its number.
-fn kind_named<'a>(model: &'a Model, name: &[u8]) -> Option<(u32, &'a Kind)>
-    requires { length model.now.kinds ≤ 256 }
-    ensures { option_map (λ p. (p.0, p.1.now)) result ≡ kind_named model.now name.now }
-{
-    let kinds = model.kinds.as_slice();
-    for (number, kind) in kinds.iter().enumerate() {
-        if kind.name.as_slice() == name {
-            return Some((number as u32, kind));
-        }
-    }
-    None
-}
 
 // The number of the parameter of this name.
 fn param_named(params: &[Param], name: &[u8]) -> Option<u8>
@@ -43,76 +27,29 @@ fn param_named(params: &[Param], name: &[u8]) -> Option<u8>
     None
 }
 
-fn timeline_name(timeline: &Timeline) -> &[u8]
-    ensures { result.now ≡ timeline_name timeline.now }
-{
-    match timeline {
-        Timeline::Capacity { name, .. } => name.as_slice(),
-        Timeline::Level { name, .. } => name.as_slice(),
-        Timeline::States { name, .. } => name.as_slice(),
-    }
-}
-
-// The timeline of this name, with its number.
-fn timeline_named<'a>(model: &'a Model, name: &[u8]) -> Option<(u32, &'a Timeline)>
-    requires { length model.now.timelines ≤ 256 }
-    ensures { option_map (λ p. (p.0, p.1.now)) result ≡ timeline_named model.now name.now }
-{
-    let timelines = model.timelines.as_slice();
-    for (number, timeline) in timelines.iter().enumerate() {
-        if timeline_name(timeline) == name {
-            return Some((number as u32, timeline));
-        }
-    }
-    None
-}
-
-// The kind that a token names, with its number.
-fn kind_of<'a>(model: &'a Model, line: &[u8], kind: &Token) -> Result<(u32, &'a Kind), PreferFault>
-    requires { IsChecked model.now }
-    ensures value { result_map_both (λ p. (p.0, p.1.now)) (λ e. e) result ≡ kind_by model.now line.now kind.now }
-    ensures few { IfOk result (λ p. length p.1.now.params ≤ 16) }
-{
-    match kind_named(model, token_text(line, kind)) {
-        Some(found) => Ok(found),
-        None => Err(PreferFault::UnknownName),
-    }
-}
-
 // The number of the parameter that a token names.
-fn param_of(params: &[Param], line: &[u8], param: &Token) -> Result<u8, PreferFault>
+fn param_of(params: &[Param], line: &[u8], param: &Token) -> Result<u8, ParseFault>
     requires { length params.now ≤ 16 }
     ensures { result ≡ param_by params.now line.now param.now }
 {
     match param_named(params, token_text(line, param)) {
         Some(number) => Ok(number),
-        None => Err(PreferFault::UnknownName),
+        None => Err(ParseFault::UnknownName),
     }
 }
 
-// The number of the level that a token names.
-fn level_of(model: &Model, line: &[u8], level: &Token) -> Result<u32, PreferFault>
-    requires { length model.now.timelines ≤ 256 }
-    ensures { result ≡ level_by model.now line.now level.now }
-{
-    match timeline_named(model, token_text(line, level)) {
-        Some((number, Timeline::Level { .. })) => Ok(number),
-        _ => Err(PreferFault::UnknownName),
-    }
-}
-
-fn weight_of(number: u64) -> Result<i64, PreferFault>
+fn weight_of(number: u64) -> Result<i64, ParseFault>
     ensures { result ≡ weight_of number }
 {
     if 1 <= number && number <= MOST {
         Ok(number as i64)
     } else {
-        Err(PreferFault::OutOfRange)
+        Err(ParseFault::OutOfRange)
     }
 }
 
 #[tactic(auto, unfolding(crate::specs::Prefers::early_with))]
-fn early(model: &Model, line: &[u8], kind: &Token, weight: u64) -> Result<Prefer, PreferFault>
+fn early(model: &Model, line: &[u8], kind: &Token, weight: u64) -> Result<Prefer, ParseFault>
     requires { IsChecked model.now }
     ensures { result ≡ early_with model.now line.now kind.now weight }
 {
@@ -122,7 +59,7 @@ fn early(model: &Model, line: &[u8], kind: &Token, weight: u64) -> Result<Prefer
 }
 
 #[tactic(auto, unfolding(crate::specs::Prefers::late_with))]
-fn late(model: &Model, line: &[u8], kind: &Token, weight: u64) -> Result<Prefer, PreferFault>
+fn late(model: &Model, line: &[u8], kind: &Token, weight: u64) -> Result<Prefer, ParseFault>
     requires { IsChecked model.now }
     ensures { result ≡ late_with model.now line.now kind.now weight }
 {
@@ -138,7 +75,7 @@ fn value(
     kind: &Token,
     param: &Token,
     weight: u64,
-) -> Result<Prefer, PreferFault>
+) -> Result<Prefer, ParseFault>
     requires { IsChecked model.now }
     ensures { result ≡ value_with model.now line.now kind.now param.now weight }
 {
@@ -149,7 +86,7 @@ fn value(
 }
 
 #[tactic(auto, unfolding(crate::specs::Prefers::level_with))]
-fn level(model: &Model, line: &[u8], level: &Token, weight: u64) -> Result<Prefer, PreferFault>
+fn level(model: &Model, line: &[u8], level: &Token, weight: u64) -> Result<Prefer, ParseFault>
     requires { IsChecked model.now }
     ensures { result ≡ level_with model.now line.now level.now weight }
 {
@@ -159,7 +96,7 @@ fn level(model: &Model, line: &[u8], level: &Token, weight: u64) -> Result<Prefe
 }
 
 // The preference of this form: its names are looked up, and its weight is checked.
-fn prefer_with(model: &Model, line: &[u8], form: &PreferForm) -> Result<Prefer, PreferFault>
+fn prefer_with(model: &Model, line: &[u8], form: &PreferForm) -> Result<Prefer, ParseFault>
     requires { IsChecked model.now }
     ensures { result ≡ prefer_with model.now line.now form.now }
 {
@@ -173,7 +110,7 @@ fn prefer_with(model: &Model, line: &[u8], form: &PreferForm) -> Result<Prefer, 
 
 /// The preference of a line, for a checked model.
 #[tactic(auto, unfolding(crate::specs::Prefers::prefer_of))]
-pub fn read_prefer(alloc: Global, model: &Model, line: &[u8]) -> Result<Prefer, PreferFault>
+pub fn read_prefer(alloc: Global, model: &Model, line: &[u8]) -> Result<Prefer, ParseFault>
     requires checked { IsChecked model.now }
     requires short { length line.now < 2 ^ 32 }
     // The preference or the first fault, unless memory runs out.

@@ -1,61 +1,19 @@
 -- The rate of a line, or its first fault: `rate KIND LEVEL CHANGE`, or `drift LEVEL CHANGE`. First the form is looked at, then
 -- the names, then the range of the change.
-use Rattle.std.specs.Prelude.{ℕ, ◌<◌, ℤ, pos, neg_ℤ, nat_le, ◌≤ℤ◌, Bool, true, false, List, [], ◌∷◌, length, slice_get, Option, Some, None, IfSome, if◌then◌else◌, codes, Result, Ok, Err}
+use Rattle.std.specs.Prelude.{ℕ, ◌<◌, ℤ, pos, neg_ℤ, nat_le, ◌≤ℤ◌, true, false, List, [], ◌∷◌, length, slice_get, Option, Some, None, IfSome, if◌then◌else◌, codes, Ok, Err}
 use Rattle.pl_lists.specs.Judgements.{◌>>=◌}
-use Rattle.pl_lists.specs.Judgements as judged
 use Rattle.pl_text.specs.declared.token.Token.{Token}
-use Rattle.pl_text.specs.declared.token.TokenKind.{TokenKind}
-use Rattle.pl_text.specs.declared.token.TokenKind.TheVariants as kind
-use Rattle.pl_text.specs.declared.fault.TextFault.{TextFault}
-use Rattle.pl_text.specs.Tokens.{token_text, tokens_of}
-use Rattle.pl_text.specs.Words.{is_name}
-use Rattle.pl_model.specs.declared.kinds.Kind.{Kind}
-use Rattle.pl_model.specs.declared.timelines.Timeline.{Timeline}
-use Rattle.pl_model.specs.declared.timelines.Timeline.TheVariants.{Capacity, Level, States}
 use Rattle.pl_model.specs.declared.whole.Model.{Model}
 use Rattle.pl_model.specs.Checked.{IsLevelLine}
-use Rattle.pl_msg.specs.Words.{says}
-use Rattle.pl_msg.specs.Names.{kind_named, timeline_named}
-use Rattle.pl_rate.specs.declared.fault.RateFault.{RateFault}
-use Rattle.pl_rate.specs.declared.fault.RateFault.TheVariants as fault
+use Rattle.pl_msg.specs.declared.fault.ParseFault.TheVariants as fault
+use Rattle.pl_msg.specs.Reads.{Read}
+use Rattle.pl_msg.specs.Words.{says, number_in, name_in, tokens_in}
+use Rattle.pl_msg.specs.Names.{kind_in, level_in}
 use Rattle.pl_rate.specs.declared.form.Change.{Change}
 use Rattle.pl_rate.specs.declared.form.RateForm.{RateForm}
 use Rattle.pl_rate.specs.declared.rate.Rate.{Rate}
 
-abbrev pub Read : Type 0 → Type 0
-Read X = Result X RateFault
-
--- the one fault that is not the line's
-abbrev pub is_memory : RateFault → Bool
-is_memory fault.Memory = true
-is_memory e = false
-
--- A call gave what is meant, or ran out of memory.
-abbrev pub Gives : {X : Type 0} → Read X → Read X → Type 0
-Gives result meant = judged.Gives is_memory result meant
-
--- the same, of what a value shows
-abbrev pub Shows : {X Y : Type 0} → (X → Y) → Read X → Read Y → Type 0
-Shows view result meant = judged.Shows is_memory view result meant
-
 -- ---- the form
-
--- a line with a fault in its tokens is a bad line
-abbrev pub without_fault : Result (List Token) TextFault → Read (List Token)
-without_fault (Ok tokens) = Ok tokens
-without_fault (Err e) = Err fault.BadLine
-
-abbrev pub tokens_in : List ℕ → Read (List Token)
-tokens_in line = without_fault (tokens_of line)
-
--- the token, where it is a name: a reserved word is none
-unfoldable pub name_in : List ℕ → Token → Read Token
-name_in line t = if is_name (token_text line t) then Ok t else Err fault.BadLine
-
-abbrev pub number_in : TokenKind → Read ℕ
-number_in kind.Name = Err fault.BadLine
-number_in (kind.Number n) = Ok n
-number_in (kind.Symbol b) = Err fault.BadLine
 
 abbrev pub up : ℕ → Change
 up n = record { down = false; amount = n }
@@ -97,25 +55,10 @@ form_in line (word ∷ tokens) =
 
 -- ---- the names and the range
 
--- the number of the kind that was found
-abbrev pub kind_found : Option (ℕ × Kind) → Read (Option ℕ)
-kind_found None = Err fault.UnknownName
-kind_found (Some p) = Ok (Some p.0)
-
--- no kind, where none was named
+-- the number of the kind, or none where none is named
 abbrev pub kind_by : Model → List ℕ → Option Token → Read (Option ℕ)
 kind_by model line None = Ok None
-kind_by model line (Some t) = kind_found (kind_named model (token_text line t))
-
--- the number of the timeline that was found, if it is a level
-abbrev pub level_found : Option (ℕ × Timeline) → Read ℕ
-level_found None = Err fault.UnknownName
-level_found (Some (n, Capacity name most)) = Err fault.UnknownName
-level_found (Some (n, Level name least most start)) = Ok n
-level_found (Some (n, States name states start any steps)) = Err fault.UnknownName
-
-abbrev pub level_by : Model → List ℕ → Token → Read ℕ
-level_by model line t = level_found (timeline_named model (token_text line t))
+kind_by model line (Some t) = kind_in model line t >>= λ k. Ok (Some k.0)
 
 abbrev pub signed : Change → ℤ
 signed c = if c.down then neg_ℤ (pos c.amount) else pos c.amount
@@ -128,7 +71,7 @@ rate_by kind level change =
 unfoldable pub rate_with : Model → List ℕ → RateForm → Read Rate
 rate_with model line form = do
   k ← kind_by model line form.kind
-  l ← level_by model line form.level
+  l ← level_in model line form.level
   rate_by k l form.change
 
 unfoldable pub rate_of : Model → List ℕ → Read Rate

@@ -1,15 +1,13 @@
 ghost use Rattle.std.specs.Prelude.{◌≡◌, ◌∷◌, IfOk, ◌<◌, ◌^◌, length};
 ghost use Rattle.pl_rate.specs.Rates.{change_in, rate_in, drift_in, form_in};
 
-use crate::fault::RateFault;
 use crate::form::{Change, RateForm};
-use crate::words::{name_of, number_of};
-use pl_msg::says;
+use pl_msg::{ParseFault, name_of, number_of, says};
 use pl_text::Token;
 
 // A number, after at most one `-`.
 #[tactic(auto, unfolding(crate::specs::Rates::change_in))]
-fn change_of(line: &[u8], tokens: &[Token]) -> Result<Change, RateFault>
+fn change_of(line: &[u8], tokens: &[Token]) -> Result<Change, ParseFault>
     ensures { result ≡ change_in line.now tokens.now }
 {
     match tokens {
@@ -25,15 +23,15 @@ fn change_of(line: &[u8], tokens: &[Token]) -> Result<Change, RateFault>
                 let amount = number_of(number)?;
                 Ok(Change { down: true, amount })
             } else {
-                Err(RateFault::BadLine)
+                Err(ParseFault::BadLine)
             }
         }
-        _ => Err(RateFault::BadLine),
+        _ => Err(ParseFault::BadLine),
     }
 }
 
 #[tactic(auto, unfolding(crate::specs::Rates::rate_in))]
-fn rate_by(line: &[u8], tokens: &[Token]) -> Result<RateForm, RateFault>
+fn rate_by(line: &[u8], tokens: &[Token]) -> Result<RateForm, ParseFault>
     ensures { result ≡ rate_in line.now tokens.now }
 {
     match tokens {
@@ -47,12 +45,12 @@ fn rate_by(line: &[u8], tokens: &[Token]) -> Result<RateForm, RateFault>
                 change,
             })
         }
-        _ => Err(RateFault::BadLine),
+        _ => Err(ParseFault::BadLine),
     }
 }
 
 #[tactic(auto, unfolding(crate::specs::Rates::drift_in))]
-fn drift_by(line: &[u8], tokens: &[Token]) -> Result<RateForm, RateFault>
+fn drift_by(line: &[u8], tokens: &[Token]) -> Result<RateForm, ParseFault>
     ensures { result ≡ drift_in line.now tokens.now }
 {
     match tokens {
@@ -65,24 +63,24 @@ fn drift_by(line: &[u8], tokens: &[Token]) -> Result<RateForm, RateFault>
                 change,
             })
         }
-        [] => Err(RateFault::BadLine),
+        [] => Err(ParseFault::BadLine),
     }
 }
 
 /// The form of a line by its first word.
 #[tactic(auto, unfolding(crate::specs::Rates::form_in))]
-pub(crate) fn form_of(line: &[u8], tokens: &[Token]) -> Result<RateForm, RateFault>
+pub(crate) fn form_of(line: &[u8], tokens: &[Token]) -> Result<RateForm, ParseFault>
     ensures { result ≡ form_in line.now tokens.now }
 {
     match tokens {
-        [] => Err(RateFault::BadLine),
+        [] => Err(ParseFault::BadLine),
         [word, tokens @ ..] => {
             if says(line, word, b"rate") {
                 rate_by(line, tokens)
             } else if says(line, word, b"drift") {
                 drift_by(line, tokens)
             } else {
-                Err(RateFault::BadLine)
+                Err(ParseFault::BadLine)
             }
         }
     }

@@ -4,7 +4,6 @@
 mod course;
 mod crossing;
 mod effects;
-mod fault;
 mod form;
 mod forms;
 mod gaps;
@@ -20,9 +19,7 @@ mod reading;
 mod sharing;
 mod telling;
 mod walking;
-mod words;
 
-pub use fault::RateFault;
 pub use laws::laws_of_bases;
 pub use outside::Outside;
 pub use rate::Rate;

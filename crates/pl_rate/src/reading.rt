@@ -1,16 +1,14 @@
 ghost use Rattle.std.specs.Prelude.{◌≡◌, ◌<◌, ◌≤◌, ◌^◌, length, option_map, IfOk};
 ghost use Rattle.pl_model.specs.Checked.{IsChecked};
-ghost use Rattle.pl_text.specs.Tokens.{token_text};
-ghost use Rattle.pl_msg.specs.Names.{kind_named, timeline_named, timeline_name};
-ghost use Rattle.pl_rate.specs.Rates.{Gives, signed, kind_by, level_by, rate_by, rate_with, rate_of, IsRateOf};
+ghost use Rattle.pl_msg.specs.Reads.{Gives};
+ghost use Rattle.pl_rate.specs.Rates.{signed, kind_by, rate_by, rate_with, rate_of, IsRateOf};
 
-use crate::fault::RateFault;
 use crate::form::{Change, RateForm};
 use crate::forms::form_of;
 use crate::rate::Rate;
-use crate::words::tokens_of;
-use pl_model::{Model, Timeline};
-use pl_text::{Token, token_text};
+use pl_model::Model;
+use pl_msg::{ParseFault, kind_of, level_of, tokens_of};
+use pl_text::Token;
 use std::alloc::Global;
 
 /// The greatest change, up or down.
@@ -24,74 +22,25 @@ fn signed(change: Change) -> i64
     if change.down { -amount } else { amount }
 }
 
-// The number of the kind of this name.
-fn kind_named(model: &Model, name: &[u8]) -> Option<u32>
-    requires { length model.now.kinds ≤ 256 }
-    ensures { result ≡ option_map (λ p. p.0) (kind_named model.now name.now) }
-{
-    let kinds = model.kinds.as_slice();
-    for (number, kind) in kinds.iter().enumerate() {
-        if kind.name.as_slice() == name {
-            return Some(number as u32);
-        }
-    }
-    None
-}
-
-fn timeline_name(timeline: &Timeline) -> &[u8]
-    ensures { result.now ≡ timeline_name timeline.now }
-{
-    match timeline {
-        Timeline::Capacity { name, .. } => name.as_slice(),
-        Timeline::Level { name, .. } => name.as_slice(),
-        Timeline::States { name, .. } => name.as_slice(),
-    }
-}
-
-// The timeline of this name, with its number.
-fn timeline_named<'a>(model: &'a Model, name: &[u8]) -> Option<(u32, &'a Timeline)>
-    requires { length model.now.timelines ≤ 256 }
-    ensures { option_map (λ p. (p.0, p.1.now)) result ≡ timeline_named model.now name.now }
-{
-    let timelines = model.timelines.as_slice();
-    for (number, timeline) in timelines.iter().enumerate() {
-        if timeline_name(timeline) == name {
-            return Some((number as u32, timeline));
-        }
-    }
-    None
-}
-
 // The number of the kind, if one is named.
-fn kind_of(model: &Model, line: &[u8], kind: Option<Token>) -> Result<Option<u32>, RateFault>
-    requires { length model.now.kinds ≤ 256 }
+fn kind_by(model: &Model, line: &[u8], kind: Option<Token>) -> Result<Option<u32>, ParseFault>
+    requires { IsChecked model.now }
     ensures { result ≡ kind_by model.now line.now kind }
 {
     match kind {
         None => Ok(None),
-        Some(kind) => match kind_named(model, token_text(line, &kind)) {
-            Some(number) => Ok(Some(number)),
-            None => Err(RateFault::UnknownName),
-        },
+        Some(kind) => {
+            let (number, _) = kind_of(model, line, &kind)?;
+            Ok(Some(number))
+        }
     }
 }
 
-// The number of the level.
-fn level_of(model: &Model, line: &[u8], level: &Token) -> Result<u32, RateFault>
-    requires { length model.now.timelines ≤ 256 }
-    ensures { result ≡ level_by model.now line.now level.now }
-{
-    match timeline_named(model, token_text(line, level)) {
-        Some((number, Timeline::Level { .. })) => Ok(number),
-        _ => Err(RateFault::UnknownName),
-    }
-}
-
-fn rate_by(kind: Option<u32>, level: u32, change: Change) -> Result<Rate, RateFault>
+fn rate_by(kind: Option<u32>, level: u32, change: Change) -> Result<Rate, ParseFault>
     ensures { result ≡ rate_by kind level change }
 {
     if change.amount > MOST {
-        return Err(RateFault::OutOfRange);
+        return Err(ParseFault::OutOfRange);
     }
     Ok(Rate {
         kind,
@@ -101,18 +50,18 @@ fn rate_by(kind: Option<u32>, level: u32, change: Change) -> Result<Rate, RateFa
 }
 
 #[tactic(auto, unfolding(crate::specs::Rates::rate_with))]
-fn rate_with(model: &Model, line: &[u8], form: RateForm) -> Result<Rate, RateFault>
+fn rate_with(model: &Model, line: &[u8], form: RateForm) -> Result<Rate, ParseFault>
     requires { IsChecked model.now }
     ensures { result ≡ rate_with model.now line.now form }
 {
-    let kind = kind_of(model, line, form.kind)?;
+    let kind = kind_by(model, line, form.kind)?;
     let level = level_of(model, line, &form.level)?;
     rate_by(kind, level, form.change)
 }
 
 /// The rate of a line, for a checked model.
 #[tactic(auto, unfolding(crate::specs::Rates::rate_of))]
-pub fn read_rate(alloc: Global, model: &Model, line: &[u8]) -> Result<Rate, RateFault>
+pub fn read_rate(alloc: Global, model: &Model, line: &[u8]) -> Result<Rate, ParseFault>
     requires checked { IsChecked model.now }
     requires short { length line.now < 2 ^ 32 }
     // The rate or the first fault, unless memory runs out.

@@ -1,6 +1,5 @@
 //! Which types may be shared among threads.
 
-use crate::fault::RateFault;
 use crate::outside::Outside;
 use crate::rate::Rate;
 use pl_lists::may_be_shared;
@@ -9,5 +8,4 @@ use pl_lists::may_be_shared;
 pub fn shared_types() {
     may_be_shared::<Outside>();
     may_be_shared::<Rate>();
-    may_be_shared::<RateFault>();
 }

@@ -17,7 +17,7 @@ use crate::round::Round;
 use crate::stop::Stop;
 use pl_entry::{Bytes, Event, Reply};
 use pl_lists::Items;
-use pl_msg::{Message, MsgFault, read_message};
+use pl_msg::{Message, ParseFault, read_message};
 use std::alloc::{AllocError, Global};
 
 fn line_bytes(alloc: Global, line: &[u8]) -> Result<Bytes, AllocError>
@@ -163,7 +163,7 @@ impl Machine {
         }
     }
 
-    #[tactic(auto, using(crate::proofs::Inputs::is_numbered_model), unfolding(crate::specs::Messages::line_reply))]
+    #[tactic(auto, using(pl_msg::proofs::Naming::is_numbered_model), unfolding(crate::specs::Messages::line_reply))]
     fn take_line(&mut self, line: &[u8]) -> Result<Reply, Stop>
         requires open { IsOpen self.old (Event.Input (Some line.now)) }
         requires line { IsMessageLine line.now }
@@ -171,10 +171,10 @@ impl Machine {
     {
         match read_message(self.alloc, line, self.board.model()) {
             Ok(message) => self.take_message(line, message),
-            Err(MsgFault::BadLine) => self.refuse(line, Reply::BadLine),
-            Err(MsgFault::UnknownName) => self.refuse(line, Reply::UnknownName),
-            Err(MsgFault::Range) => self.refuse(line, Reply::Range),
-            Err(MsgFault::Memory) => Err(self.spoil()),
+            Err(ParseFault::BadLine) => self.refuse(line, Reply::BadLine),
+            Err(ParseFault::UnknownName) => self.refuse(line, Reply::UnknownName),
+            Err(ParseFault::OutOfRange) => self.refuse(line, Reply::Range),
+            Err(ParseFault::Memory) => Err(self.spoil()),
         }
     }
 

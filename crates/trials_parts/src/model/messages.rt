@@ -5,7 +5,7 @@ use crate::asserting::holds;
 use crate::reading::model;
 use pl_lists::Copied;
 use pl_model::{Model, Timeline};
-use pl_msg::{MsgFault, read_message};
+use pl_msg::{ParseFault, read_message};
 use std::alloc::{AllocError, Global};
 use std::process::Abort;
 
@@ -49,7 +49,7 @@ fn read(alloc: Global, line: &str, model: &Model) -> Result<String, AllocError>
     }
     match read_message(alloc, line.as_bytes(), model) {
         Ok(message) => format!(in alloc; "{:?}", message.copy(alloc)?),
-        Err(MsgFault::Memory) => Err(AllocError),
+        Err(ParseFault::Memory) => Err(AllocError),
         Err(fault) => fault.to_string(alloc),
     }
 }

@@ -4,7 +4,8 @@ ghost use Rattle.pl_model.specs.Checked.{IsChecked};
 use crate::asserting::holds;
 use crate::reading::model;
 use pl_model::Model;
-use pl_prefs::{PreferFault, read_prefer};
+use pl_msg::ParseFault;
+use pl_prefs::read_prefer;
 use std::alloc::{AllocError, Global};
 use std::process::Abort;
 
@@ -80,7 +81,7 @@ fn read(alloc: Global, line: &str, model: &Model) -> Result<String, AllocError>
     }
     match read_prefer(alloc, model, line.as_bytes()) {
         Ok(prefer) => format!(in alloc; "{prefer:?}"),
-        Err(PreferFault::Memory) => Err(AllocError),
+        Err(ParseFault::Memory) => Err(AllocError),
         Err(fault) => fault.to_string(alloc),
     }
 }

@@ -1,10 +1,10 @@
-use Rattle.std.proofs.Common.{◌≡◌, ◌++◌, List, [], ◌∷◌, false, refl, subst, sym, ◌∙◌}
+use Rattle.std.proofs.Common.{◌≡◌, ◌++◌, List, false, subst, sym, ◌∙◌}
 use Rattle.std.specs.List.{flat_map}
 use Rattle.pl_plan.specs.declared.activity.Activity.{Activity}
 use Rattle.pl_plan.specs.declared.repair.RepairMove.{RepairMove}
 use Rattle.pl_semantics.specs.Starts.{moves_of}
 use Rattle.pl_cand.specs.declared.role.Role.TheVariants.{ChangesBelow}
-use Rattle.pl_cand.specs.Telling.{Tells, away, is_addition, players_of}
+use Rattle.pl_cand.specs.Telling.{Tells, is_addition, players_of}
 use Rattle.pl_cand.proofs.Behind.{nothing_away}
 use Rattle.pl_cand.proofs.telling.told_of_level.Goals as goal
 
