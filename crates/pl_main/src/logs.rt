@@ -26,6 +26,6 @@ pub fn write_log<O: Sink>(
     if !out.keeps() {
         return Ok(());
     }
-    let log = machine.log();
-    write_entries(alloc, machine.model(), from as u32, &log[from..], out)
+    let entries = machine.log().entries_from(alloc, from)?;
+    write_entries(alloc, machine.model(), from as u32, entries.as_slice(), out)
 }

@@ -1,0 +1,59 @@
+-- Packs of 256 entries, one after the other.
+use Rattle.std.proofs.Common.{◌≡◌, ◌+◌, ◌-◌, ◌*◌, ◌/◌, ◌%◌, ◌<◌, ◌≤◌, ◌++◌, ◌∙◌, refl, ap, sym, tt, ℕ, suc, List, [], ◌∷◌, length, drop, arith, length-append, length-drop, drop_at, drop-append-le, drop-drop}
+use Rattle.std.proofs.lemmas.Nat.{div-add-mod'}
+use Rattle.std.proofs.Math.Nat.{mod-lt}
+use Rattle.pl_entry.specs.declared.entry.Entry.{Entry}
+use Rattle.pl_log.specs.Logged.{joined, AreFull}
+
+pub length_joined : (packs : List (List Entry)) → AreFull packs → length (joined packs) ≡ length packs * 256
+length_joined [] full = refl
+length_joined (p ∷ packs) full =
+    let here : length (p ++ joined packs) ≡ length p + length (joined packs) = length-append p (joined packs) in
+    let more = length_joined packs full.1 in
+    let one = full.0 in
+    omega (arith, here, more, one)
+
+pub full_back : (n : ℕ) (packs : List (List Entry)) → AreFull packs → AreFull (drop n packs)
+full_back zero packs full = full
+full_back (suc n) [] full = full
+full_back (suc n) (p ∷ packs) full = full_back n packs full.1
+
+drop_none : (n : ℕ) → drop n (joined []) ≡ joined []
+drop_none zero = refl
+drop_none (suc n) = refl
+
+pub joined_back : (n : ℕ) (packs : List (List Entry)) → AreFull packs → drop (n * 256) (joined packs) ≡ joined (drop n packs)
+joined_back zero packs full = refl
+joined_back (suc n) [] full = drop_none (suc n * 256)
+joined_back (suc n) (p ∷ packs) full =
+    let further : suc n * 256 ≡ 256 + n * 256 = omega arith in
+    rw further (rw (← drop-drop (n * 256) 256 (p ++ joined packs)) (rw (drop_at p (joined packs) 256 full.0) (joined_back n packs full.1)))
+
+-- behind some entries of the packs
+pub behind_packed : (from : ℕ) (packs : List (List Entry)) (newest : List Entry) → AreFull packs → from / 256 < length packs
+    → drop from (joined packs ++ newest) ≡ drop (from % 256) (joined (drop (from / 256) packs)) ++ newest
+behind_packed from packs newest full inside =
+    let whole = from / 256 in
+    let rest = from % 256 in
+    let parts : whole * 256 + rest ≡ from = div-add-mod' from 256 in
+    let some : 0 < 256 = omega arith in
+    let small : rest < 256 = mod-lt from some in
+    let long = length_joined packs full in
+    let left = length_joined (drop whole packs) (full_back whole packs full) in
+    let many = length-drop whole packs in
+    let before : whole * 256 ≤ length (joined packs) = omega (arith, long, inside) in
+    let within : rest ≤ length (joined (drop whole packs)) = omega (arith, left, many, inside, small) in
+    ap (λ (n : ℕ). drop n (joined packs ++ newest)) (sym parts)
+    ∙ sym (drop-drop rest (whole * 256) (joined packs ++ newest))
+    ∙ ap (λ (es : List Entry). drop rest es) (drop-append-le (whole * 256) (joined packs) newest before ∙ ap (λ (es : List Entry). es ++ newest) (joined_back whole packs full))
+    ∙ drop-append-le rest (joined (drop whole packs)) newest within
+
+-- behind all entries of the packs
+pub behind_newest : (from : ℕ) (packs : List (List Entry)) (newest : List Entry) → AreFull packs → length packs * 256 ≤ from
+    → drop from (joined packs ++ newest) ≡ drop (from - length packs * 256) newest
+behind_newest from packs newest full past =
+    let packed = length packs * 256 in
+    let parts : packed + (from - packed) ≡ from = omega (arith, past) in
+    ap (λ (n : ℕ). drop n (joined packs ++ newest)) (sym parts)
+    ∙ sym (drop-drop (from - packed) packed (joined packs ++ newest))
+    ∙ ap (λ (es : List Entry). drop (from - packed) es) (drop_at (joined packs) newest packed (length_joined packs full))

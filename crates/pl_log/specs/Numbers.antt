@@ -1,0 +1,37 @@
+-- How numbers are kept in few bytes.
+use Rattle.std.specs.Prelude.{ℕ, suc, ◌+◌, ◌*◌, ◌/◌, ◌%◌, ◌<?◌, List, [], ◌∷◌, drop, slice_index_or, if◌then◌else◌}
+use Rattle.std.specs.List.{flat_map}
+
+-- One byte for a number below 254. Else the byte 254 and two more, or the byte 255 and four more, the highest first.
+abbrev pub packed : ℕ → List ℕ
+packed n =
+    if n <? 254 then n ∷ []
+    else if n <? 65536 then 254 ∷ n / 256 ∷ n % 256 ∷ []
+    else 255 ∷ n / 256 / 256 / 256 ∷ n / 256 / 256 % 256 ∷ n / 256 % 256 ∷ n % 256 ∷ []
+
+-- numbers one after the other
+abbrev pub all_packed : List ℕ → List ℕ
+all_packed ns = flat_map packed ns
+
+-- the byte at a place, and 0 behind the end
+abbrev pub byte_at : List ℕ → ℕ → ℕ
+byte_at bytes i = slice_index_or bytes i 0
+
+-- the number that these bytes begin with
+abbrev pub unpacked : List ℕ → ℕ
+unpacked bytes =
+    if byte_at bytes 0 <? 254 then byte_at bytes 0
+    else if byte_at bytes 0 <? 255 then byte_at bytes 1 * 256 + byte_at bytes 2
+    else byte_at bytes 1 * 16777216 + byte_at bytes 2 * 65536 + byte_at bytes 3 * 256 + byte_at bytes 4
+
+-- how many bytes it has
+abbrev pub width : List ℕ → ℕ
+width bytes =
+    if byte_at bytes 0 <? 254 then 1
+    else if byte_at bytes 0 <? 255 then 3
+    else 5
+
+-- so many numbers
+abbrev pub all_unpacked : ℕ → List ℕ → List ℕ
+all_unpacked zero bytes = []
+all_unpacked (suc more) bytes = unpacked bytes ∷ all_unpacked more (drop (width bytes) bytes)
