@@ -1,5 +1,4 @@
 ghost use Rattle.std.specs.Prelude.{◌≡◌, ◌<◌, ◌<?◌, [], length, OnOk, if◌then◌else◌};
-ghost use Rattle.pl_plan.specs.declared.repair.RepairMove.TheVariants as repair;
 ghost use Rattle.pl_log.specs.Packing.{is_done, short, kept, fix, fix_of, message_of, command_of, input_packed, rest_packed, dispatch_packed, packed_of, Adds};
 
 use crate::form::{Form, MoveForm};
@@ -39,20 +38,58 @@ impl Parts {
         }
     }
 
-    fn put_short(&mut self, form: Form, numbers: &[u32]) -> Result<(), AllocError>
-        ensures { OnOk result (Adds (short form numbers.now) self.old self.new) }
+    // Puts a form, with what it has in the other parts.
+    #[tactic(auto, using(crate::proofs::Adding::nothing_added))]
+    fn put_parts(
+        &mut self,
+        form: Form,
+        numbers: &[u32],
+        bytes: &[u8],
+        values: &[Option<i64>],
+    ) -> Result<(), AllocError>
+        ensures { OnOk result (Adds (record { form = form; numbers = numbers.now; bytes = bytes.now; values = values.now; whole = [] }) self.old self.new) }
     {
         self.forms.push(form)?;
         self.numbers.extend_from_slice(numbers)?;
+        self.bytes.extend_from_slice(bytes)?;
+        self.values.extend_from_slice(values)?;
         Ok(())
     }
 
+    fn put_short(&mut self, form: Form, numbers: &[u32]) -> Result<(), AllocError>
+        ensures { OnOk result (Adds (short form numbers.now) self.old self.new) }
+    {
+        self.put_parts(form, numbers, &[], &[])
+    }
+
+    #[tactic(auto, using(crate::proofs::Adding::nothing_added))]
     fn put_whole(&mut self, alloc: Global, entry: &Entry) -> Result<(), AllocError>
         ensures { OnOk result (Adds (kept entry.now) self.old self.new) }
     {
         self.forms.push(Form::Whole)?;
         self.whole.push(entry.copy(alloc)?)?;
         Ok(())
+    }
+
+    // Puts a repair: the numbers of its conflict, and then its own.
+    #[tactic(auto, using(crate::proofs::Adding::numbers_added))]
+    fn put_fix_with(
+        &mut self,
+        conflict: &Conflict,
+        form: MoveForm,
+        numbers: &[u32],
+        values: &[Option<i64>],
+    ) -> Result<(), AllocError>
+        ensures { OnOk result (Adds (record (fix conflict.now form numbers.now) { values = values.now }) self.old self.new) }
+    {
+        self.numbers.extend_from_slice(&[
+            conflict.from,
+            conflict.subject,
+            conflict.detail,
+            conflict.a,
+            conflict.b,
+        ])?;
+        self.put_parts(Form::Fix(conflict.code, form), numbers, &[], values)
     }
 
     fn put_fix_of(
@@ -63,30 +100,7 @@ impl Parts {
     ) -> Result<(), AllocError>
         ensures { OnOk result (Adds (fix conflict.now form numbers.now) self.old self.new) }
     {
-        self.forms.push(Form::Fix(conflict.code, form))?;
-        self.numbers.extend_from_slice(&[
-            conflict.from,
-            conflict.subject,
-            conflict.detail,
-            conflict.a,
-            conflict.b,
-        ])?;
-        self.numbers.extend_from_slice(numbers)?;
-        Ok(())
-    }
-
-    fn put_assign(
-        &mut self,
-        conflict: &Conflict,
-        id: u32,
-        param: u8,
-        value: i64,
-    ) -> Result<(), AllocError>
-        ensures { OnOk result (Adds (fix_of conflict.now (repair.Assign id param value)) self.old self.new) }
-    {
-        self.put_fix_of(conflict, MoveForm::Assign(param), &[id])?;
-        self.values.push(Some(value))?;
-        Ok(())
+        self.put_fix_with(conflict, form, numbers, &[])
     }
 
     fn put_fix(&mut self, conflict: &Conflict, repair: &RepairMove) -> Result<(), AllocError>
@@ -111,7 +125,9 @@ impl Parts {
                 self.put_fix_of(conflict, MoveForm::Detail, &[id, alternative])
             }
             RepairMove::Abstract { id } => self.put_fix_of(conflict, MoveForm::Abstract, &[id]),
-            RepairMove::Assign { id, param, value } => self.put_assign(conflict, id, param, value),
+            RepairMove::Assign { id, param, value } => {
+                self.put_fix_with(conflict, MoveForm::Assign(param), &[id], &[Some(value)])
+            }
             RepairMove::Drop { goal } => self.put_fix_of(conflict, MoveForm::Drop, &[goal]),
         }
     }
@@ -120,9 +136,7 @@ impl Parts {
         requires { length line.now < 65536 }
         ensures { OnOk result (Adds (message_of line.now) self.old self.new) }
     {
-        self.put_short(Form::Message, &[line.len() as u32])?;
-        self.bytes.extend_from_slice(line)?;
-        Ok(())
+        self.put_parts(Form::Message, &[line.len() as u32], line, &[])
     }
 
     fn put_command(
@@ -135,9 +149,8 @@ impl Parts {
         requires { length values.now < 65536 }
         ensures { OnOk result (Adds (command_of id kind start values.now) self.old self.new) }
     {
-        self.put_short(Form::Command, &[id, kind, start, values.len() as u32])?;
-        self.values.extend_from_slice(values)?;
-        Ok(())
+        let numbers = [id, kind, start, values.len() as u32];
+        self.put_parts(Form::Command, &numbers, &[], values)
     }
 
     // A message that was taken.
