@@ -20,4 +20,4 @@ AreFull packs = All (λ pack. length pack ≡ 256) packs
 pub record IsSmall (packs : List (List Entry)) (newest : List Entry) : Type 0 where
   pub full : AreFull packs
   pub few : length packs ≤ 2 ^ 32
-  pub newest : length newest ≤ 256
+  pub short : length newest ≤ 256

@@ -1,12 +1,12 @@
 -- How numbers are kept in few bytes.
-use Rattle.std.specs.Prelude.{ℕ, suc, ◌+◌, ◌*◌, ◌/◌, ◌%◌, ◌<?◌, List, [], ◌∷◌, drop, slice_index_or, if◌then◌else◌}
+use Rattle.std.specs.Prelude.{ℕ, zero, suc, ◌+◌, ◌*◌, ◌/◌, ◌%◌, nat_lt, List, [], ◌∷◌, drop, slice_index_or, if◌then◌else◌}
 use Rattle.std.specs.List.{flat_map}
 
 -- One byte for a number below 254. Else the byte 254 and two more, or the byte 255 and four more, the highest first.
 abbrev pub packed : ℕ → List ℕ
 packed n =
-    if n <? 254 then n ∷ []
-    else if n <? 65536 then 254 ∷ n / 256 ∷ n % 256 ∷ []
+    if nat_lt n 254 then n ∷ []
+    else if nat_lt n 65536 then 254 ∷ n / 256 ∷ n % 256 ∷ []
     else 255 ∷ n / 256 / 256 / 256 ∷ n / 256 / 256 % 256 ∷ n / 256 % 256 ∷ n % 256 ∷ []
 
 -- numbers one after the other
@@ -20,15 +20,15 @@ byte_at bytes i = slice_index_or bytes i 0
 -- the number that these bytes begin with
 abbrev pub unpacked : List ℕ → ℕ
 unpacked bytes =
-    if byte_at bytes 0 <? 254 then byte_at bytes 0
-    else if byte_at bytes 0 <? 255 then byte_at bytes 1 * 256 + byte_at bytes 2
+    if nat_lt (byte_at bytes 0) 254 then byte_at bytes 0
+    else if nat_lt (byte_at bytes 0) 255 then byte_at bytes 1 * 256 + byte_at bytes 2
     else byte_at bytes 1 * 16777216 + byte_at bytes 2 * 65536 + byte_at bytes 3 * 256 + byte_at bytes 4
 
 -- how many bytes it has
 abbrev pub width : List ℕ → ℕ
 width bytes =
-    if byte_at bytes 0 <? 254 then 1
-    else if byte_at bytes 0 <? 255 then 3
+    if nat_lt (byte_at bytes 0) 254 then 1
+    else if nat_lt (byte_at bytes 0) 255 then 3
     else 5
 
 -- so many numbers

@@ -1,5 +1,5 @@
 -- What is kept of an entry.
-use Rattle.std.specs.Prelude.{◌≡◌, ℕ, ℤ, ◌<?◌, Bool, true, false, List, [], ◌∷◌, ◌++◌, length, Option, Some, None, if◌then◌else◌}
+use Rattle.std.specs.Prelude.{◌≡◌, ℕ, ℤ, nat_lt, Bool, true, false, List, [], ◌∷◌, ◌++◌, length, Option, Some, None, if◌then◌else◌}
 use Rattle.pl_conflict.specs.declared.conflict.Conflict.{Conflict}
 use Rattle.pl_plan.specs.declared.repair.RepairMove.{RepairMove}
 use Rattle.pl_plan.specs.declared.repair.RepairMove.TheVariants as repair
@@ -57,14 +57,14 @@ command_of id kind start values = record (short form.Command (id ∷ kind ∷ st
 
 abbrev pub input_packed : Entry → Option (List ℕ) → Reply → Packed
 input_packed e None answer = kept e
-input_packed e (Some line) answer = if is_done answer then (if length line <? 65536 then message_of line else kept e) else kept e
+input_packed e (Some line) answer = if is_done answer then (if nat_lt (length line) 65536 then message_of line else kept e) else kept e
 
 abbrev pub rest_packed : Entry → Reply → Packed
 rest_packed e (reply.Rested reason) = short (form.Rest reason) []
 rest_packed e _ = kept e
 
 abbrev pub dispatch_packed : Entry → Reply → Packed
-dispatch_packed e (reply.Sent id kind start values) = if length values <? 65536 then command_of id kind start values else kept e
+dispatch_packed e (reply.Sent id kind start values) = if nat_lt (length values) 65536 then command_of id kind start values else kept e
 dispatch_packed e _ = kept e
 
 abbrev pub packed_by : Entry → Event → Reply → Packed

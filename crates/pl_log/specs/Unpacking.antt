@@ -1,5 +1,5 @@
 -- The entry that was packed.
-use Rattle.std.specs.Prelude.{ℕ, ℤ, ◌+◌, List, [], ◌∷◌, take, drop, slice_index_or, Option, Some, None}
+use Rattle.std.specs.Prelude.{ℕ, ℤ, pos, List, [], ◌∷◌, take, drop, slice_index_or, Option, Some, None}
 use Rattle.pl_conflict.specs.declared.conflict.Conflict.{Conflict}
 use Rattle.pl_conflict.specs.declared.conflict.Code.{Code}
 use Rattle.pl_plan.specs.declared.repair.RepairMove.{RepairMove}
@@ -18,8 +18,8 @@ number_at ns i = slice_index_or ns i 0
 
 -- the first value, and 0 if there is none
 abbrev pub first_value : List (Option ℤ) → ℤ
-first_value [] = 0
-first_value (None ∷ vs) = 0
+first_value [] = pos 0
+first_value (None ∷ vs) = pos 0
 first_value (Some v ∷ vs) = v
 
 -- the first of the entries that were kept as they are, and any entry if there is none

@@ -1,4 +1,4 @@
-ghost use Rattle.std.specs.Prelude.{◌≡◌, ◌+◌, ◌*◌, ◌<◌, ◌≤◌, ◌^◌, true, [], ◌∷◌, ◌++◌, drop, length, IfOk, OnOk};
+ghost use Rattle.std.specs.Prelude.{◌≡◌, ◌+◌, ◌*◌, ◌<◌, ◌≤◌, ◌^◌, true, [], ◌∷◌, ◌++◌, drop, length, IfOk, OnOk, IfSome};
 ghost use Rattle.pl_log.specs.Logged.{joined, AreFull};
 
 use crate::pack::Pack;
@@ -23,12 +23,12 @@ pub struct Log {
 }
 
 impl Model for Log {
-    ghost use Rattle.std.specs.Prelude.{◌++◌, ◌<?◌, ◌&&◌, vec_len, vec_capacity};
+    ghost use Rattle.std.specs.Prelude.{◌++◌, nat_lt, ◌&&◌, vec_len, vec_capacity};
     ghost use Rattle.pl_log.specs.Logged.{Logged, joined, IsSmall};
 
     ghost Value = { Logged };
 
-    ghost view = { λ l. record { entries = joined l.packs.items ++ l.newest.items; has_place = (vec_len l.newest <? 256) && (vec_len l.newest <? vec_capacity l.newest) } };
+    ghost view = { λ l. record { entries = joined l.packs.items ++ l.newest.items; has_place = nat_lt (vec_len l.newest) 256 && nat_lt (vec_len l.newest) (vec_capacity l.newest) } };
 
     ghost invariant = { λ l. IsSmall l.packs.items l.newest.items };
 }
@@ -79,23 +79,30 @@ impl Log {
         self.newest.push(entry).unwrap();
     }
 
+    /// The entries behind so many, as they stand in the log; none where some of them are packed.
+    pub fn newest_from(&self, from: usize) -> Option<&[Entry]>
+        ensures { IfSome result (λ entries. entries.now ≡ drop from self.now.entries) }
+    {
+        if from / PACK < self.packs.len() {
+            return None;
+        }
+        let packed = self.packs.len() * PACK;
+        Some(after(&self.newest, from - packed))
+    }
+
     /// The entries behind so many, with memory of their own.
     pub fn entries_from(&self, alloc: Global, from: usize) -> Result<Items<Entry>, AllocError>
         ensures { IfOk result (λ entries. entries ≡ drop from self.now.entries) }
     {
         let mut entries = Items::new(alloc);
         if from / PACK < self.packs.len() {
-            unpack_all(
-                alloc,
-                after(&self.packs, from / PACK),
-                from % PACK,
-                &mut entries,
-            )?;
+            let packs = after(&self.packs, from / PACK);
+            unpack_all(alloc, packs, from % PACK, &mut entries)?;
             push_copies(alloc, &self.newest, &mut entries)?;
-        } else {
-            let packed = self.packs.len() * PACK;
-            push_copies(alloc, after(&self.newest, from - packed), &mut entries)?;
+            return Ok(entries);
         }
+        let packed = self.packs.len() * PACK;
+        push_copies(alloc, after(&self.newest, from - packed), &mut entries)?;
         Ok(entries)
     }
 

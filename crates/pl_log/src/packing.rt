@@ -1,4 +1,4 @@
-ghost use Rattle.std.specs.Prelude.{◌≡◌, ◌<◌, ◌<?◌, [], length, OnOk, if◌then◌else◌};
+ghost use Rattle.std.specs.Prelude.{◌≡◌, ◌<◌, nat_lt, [], length, OnOk, if◌then◌else◌};
 ghost use Rattle.pl_log.specs.Packing.{is_done, short, kept, fix, fix_of, message_of, command_of, input_packed, rest_packed, dispatch_packed, packed_of, Adds};
 
 use crate::form::{Form, MoveForm};
@@ -155,7 +155,7 @@ impl Parts {
 
     // A message that was taken.
     fn put_line(&mut self, alloc: Global, entry: &Entry, line: &[u8]) -> Result<(), AllocError>
-        ensures { OnOk result (Adds (if length line.now <? 65536 then message_of line.now else kept entry.now) self.old self.new) }
+        ensures { OnOk result (Adds (if nat_lt (length line.now) 65536 then message_of line.now else kept entry.now) self.old self.new) }
     {
         if line.len() < LONG {
             self.put_message(line)
@@ -219,7 +219,7 @@ impl Parts {
         start: u32,
         values: &[Option<i64>],
     ) -> Result<(), AllocError>
-        ensures { OnOk result (Adds (if length values.now <? 65536 then command_of id kind start values.now else kept entry.now) self.old self.new) }
+        ensures { OnOk result (Adds (if nat_lt (length values.now) 65536 then command_of id kind start values.now else kept entry.now) self.old self.new) }
     {
         if values.len() < LONG {
             self.put_command(id, kind, start, values)

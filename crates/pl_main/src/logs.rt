@@ -26,6 +26,10 @@ pub fn write_log<O: Sink>(
     if !out.keeps() {
         return Ok(());
     }
-    let entries = machine.log().entries_from(alloc, from)?;
+    let log = machine.log();
+    if let Some(entries) = log.newest_from(from) {
+        return write_entries(alloc, machine.model(), from as u32, entries, out);
+    }
+    let entries = log.entries_from(alloc, from)?;
     write_entries(alloc, machine.model(), from as u32, entries.as_slice(), out)
 }
