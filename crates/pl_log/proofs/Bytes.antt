@@ -15,15 +15,15 @@ begins n rest =
     cond_both (ltb n 254) _ _ P
     (λ small. record { number = rw small refl; rest = rw small refl })
     (λ _. cond_both (ltb n 65536) _ _ P
-      (λ _. record { number = div-add-mod' n 256; rest = refl })
-      (λ _. record {
-        number =
-            let one = div-add-mod' n 256 in
-            let two = div-add-mod' (n / 256) 256 in
-            let three = div-add-mod' (n / 256 / 256) 256 in
-            omega (arith, one, two, three);
-        rest = refl;
-      }))
+    (λ _. record { number = div-add-mod' n 256; rest = refl })
+    (λ _. record {
+      number =
+          let one = div-add-mod' n 256 in
+          let two = div-add-mod' (n / 256) 256 in
+          let three = div-add-mod' (n / 256 / 256) 256 in
+          omega (arith, one, two, three);
+      rest = refl;
+    }))
 
 pub all_begin : (ns rest : List ℕ) → all_unpacked (length ns) (all_packed ns ++ rest) ≡ ns
 all_begin [] rest = refl

@@ -1,5 +1,6 @@
 -- Packs of 256 entries, one after the other.
-use Rattle.std.proofs.Common.{◌≡◌, ◌+◌, ◌-◌, ◌*◌, ◌/◌, ◌%◌, ◌<◌, ◌≤◌, ◌++◌, ◌∙◌, refl, ap, sym, ℕ, zero, suc, List, [], ◌∷◌, length, drop, arith, length-append, length-drop, drop_at, drop-append-le, drop-drop}
+use Rattle.std.proofs.Common.{◌≡◌, ◌+◌, ◌-◌, ◌*◌, ◌/◌, ◌%◌, ◌<◌, ◌≤◌, ◌++◌, ◌∙◌, refl, ap, sym, ℕ, zero, suc, List, [], ◌∷◌, length, drop, arith, length-append, length-drop, drop_at, drop-drop}
+use Rattle.std.proofs.lemmas.List.{drop-append-le}
 use Rattle.std.proofs.lemmas.Nat.{div-add-mod'}
 use Rattle.std.proofs.Math.Nat.{mod-lt}
 use Rattle.pl_entry.specs.declared.entry.Entry.{Entry}

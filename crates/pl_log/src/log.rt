@@ -121,11 +121,7 @@ impl Log {
 }
 
 /// Appends copies of entries to a list.
-fn push_copies(
-    alloc: Global,
-    entries: &[Entry],
-    into: &mut Items<Entry>,
-) -> Result<(), AllocError>
+fn push_copies(alloc: Global, entries: &[Entry], into: &mut Items<Entry>) -> Result<(), AllocError>
     ensures { OnOk result (into.new ≡ into.old ++ entries.now) }
 {
     for entry in entries {

@@ -1,4 +1,4 @@
-ghost use Rattle.std.specs.Prelude.{◌≡◌, ◌++◌, drop, IfOk, OnOk};
+ghost use Rattle.std.specs.Prelude.{◌≡◌, ◌+◌, ◌*◌, ◌++◌, IfOk, OnOk};
 ghost use Rattle.pl_log.specs.Numbers.{packed, byte_at, unpacked, width};
 
 use crate::reading::after;
@@ -58,7 +58,10 @@ fn from_two(high: u8, low: u8) -> u32
 fn from_four(first: u8, second: u8, third: u8, last: u8) -> u32
     ensures { result ≡ first * 16777216 + second * 65536 + third * 256 + last }
 {
-    u32::from(first) * 16_777_216 + u32::from(second) * 65_536 + u32::from(third) * 256 + u32::from(last)
+    u32::from(first) * 16_777_216
+        + u32::from(second) * 65_536
+        + u32::from(third) * 256
+        + u32::from(last)
 }
 
 /// The number that the bytes begin with.

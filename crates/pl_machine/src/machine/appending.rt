@@ -24,12 +24,7 @@ use pl_points::{Quiet, Steps};
 use std::alloc::{AllocError, Global};
 
 /// Appends an entry to a log, and gives the reply back.
-fn log_entry(
-    log: &mut Log,
-    alloc: Global,
-    event: Event,
-    reply: Reply,
-) -> Result<Reply, AllocError>
+fn log_entry(log: &mut Log, alloc: Global, event: Event, reply: Reply) -> Result<Reply, AllocError>
     ensures ok { OnOk result (log.new.entries ≡ log.old.entries ++ record { event = event; reply = reply } ∷ []) }
     ensures same { IfOk result (λ r. r ≡ reply) }
     ensures err { OnErr result (log.new.entries ≡ log.old.entries) }

@@ -155,8 +155,16 @@ fn a_log_gives_its_entries(rt: HostRuntime) {
     let copy = log.copy(alloc).expect(&rt, "memory");
     holds(&rt, "its length", log.len() == 600 && copy.len() == 600);
     for from in [0u32, 1, 255, 256, 257, 511, 512, 513, 599, 600] {
-        holds(&rt, "the log", gives(alloc, &log, from).expect(&rt, "memory"));
-        holds(&rt, "its copy", gives(alloc, &copy, from).expect(&rt, "memory"));
+        holds(
+            &rt,
+            "the log",
+            gives(alloc, &log, from).expect(&rt, "memory"),
+        );
+        holds(
+            &rt,
+            "its copy",
+            gives(alloc, &copy, from).expect(&rt, "memory"),
+        );
     }
     holds(&rt, "packed", log.newest_from(511).is_none());
     holds(&rt, "as they stand", log.newest_from(512).is_some());
