@@ -1,5 +1,5 @@
 -- Numbers that were packed are unpacked again.
-use Rattle.std.proofs.Common.{◌≡◌, ◌+◌, ◌*◌, ◌/◌, ◌%◌, ◌++◌, ◌∙◌, refl, ap, sym, ℕ, List, [], ◌∷◌, length, drop, ltb, true, false, arith, append_assoc, append-nil}
+use Rattle.std.proofs.Common.{◌≡◌, ◌+◌, ◌-◌, ◌*◌, ◌/◌, ◌%◌, ◌<◌, ◌++◌, ◌∙◌, refl, ap, sym, ℕ, suc, List, [], ◌∷◌, length, drop, ltb, true, false, arith, append_assoc, append-nil}
 use Rattle.std.proofs.lemmas.Bool.{cond_both}
 use Rattle.std.proofs.lemmas.Nat.{div-add-mod'}
 use Rattle.pl_log.specs.Numbers.{packed, all_packed, unpacked, width, all_unpacked}
@@ -33,3 +33,14 @@ all_begin (n ∷ ns) rest =
 
 pub all_back : (ns : List ℕ) → all_unpacked (length ns) (all_packed ns) ≡ ns
 all_back ns = ap (λ (bytes : List ℕ). all_unpacked (length ns) bytes) (sym (append-nil (all_packed ns))) ∙ all_begin ns []
+
+-- one number further, the numbers that stand and those that are to come are the whole as before
+pub one_unpacked : (count i : ℕ) (rest before after whole : List ℕ) → i < count → after ≡ before ++ unpacked rest ∷ [] → before ++ all_unpacked (count - i) rest ≡ whole
+    → after ++ all_unpacked (count - (i + 1)) (drop (width rest) rest) ≡ whole
+one_unpacked count i rest before after whole inside adds now =
+    let more : List ℕ = all_unpacked (count - (i + 1)) (drop (width rest) rest) in
+    let next : count - i ≡ suc (count - (i + 1)) = omega arith in
+    ap (λ (ns : List ℕ). ns ++ more) adds
+    ∙ append_assoc before (unpacked rest ∷ []) more
+    ∙ ap (λ (n : ℕ). before ++ all_unpacked n rest) (sym next)
+    ∙ now

@@ -1,5 +1,5 @@
 -- An entry that was packed is unpacked again.
-use Rattle.std.proofs.Common.{◌≡◌, ◌++◌, ◌∙◌, refl, ap, sym, ℕ, ℤ, List, [], ◌∷◌, length, take, drop, map, Option, Some, None, ltb, true, false, append_assoc, take_at, drop_at}
+use Rattle.std.proofs.Common.{◌≡◌, ◌+◌, ◌-◌, ◌<◌, ◌≤◌, ◌++◌, ◌∙◌, refl, ap, sym, ℕ, ℤ, suc, List, [], ◌∷◌, length, get_or, take, drop, Option, Some, None, ltb, true, false, arith, append_assoc, take_at, drop_at}
 use Rattle.std.specs.List.{flat_map}
 use Rattle.std.proofs.lemmas.Bool.{cond_both}
 use Rattle.pl_conflict.specs.declared.conflict.Conflict.{Conflict}
@@ -11,8 +11,10 @@ use Rattle.pl_entry.specs.declared.reply.Reply.{Reply}
 use Rattle.pl_entry.specs.declared.reply.Reply.TheVariants as reply
 use Rattle.pl_entry.specs.declared.entry.Entry.{Entry}
 use Rattle.pl_log.specs.declared.form.Form.{Form}
-use Rattle.pl_log.specs.Packing.{Packed, kept, fix_of, message_of, command_of, packed_by, packed_of}
+use Rattle.pl_log.specs.declared.parts.Parts.{Parts}
+use Rattle.pl_log.specs.Packing.{Packed, Adds, kept, fix_of, message_of, command_of, packed_by, packed_of}
 use Rattle.pl_log.specs.Unpacking.{entry_in, numbers_of, bytes_of, values_of, whole_of, entries_in}
+use Rattle.pl_log.proofs.Adding.{next_added, all_added}
 
 -- what is packed gives the entry, and leaves what stands behind it
 pub record Gives (p : Packed) (e : Entry) (ns bs : List ℕ) (vs : List (Option ℤ)) (ws : List Entry) : Type 0 where
@@ -80,24 +82,75 @@ gives e ns bs vs ws = gives_by e.event e.reply ns bs vs ws
 
 -- ---- many entries
 
-abbrev pub forms_of : List Entry → List Form
-forms_of es = map (λ e. (packed_of e).form) es
+abbrev pub form_of : Entry → List Form
+form_of e = (packed_of e).form ∷ []
 
-abbrev pub all_numbers : List Entry → List ℕ
-all_numbers es = flat_map (λ e. (packed_of e).numbers) es
+abbrev pub numbers_in : Entry → List ℕ
+numbers_in e = (packed_of e).numbers
 
-abbrev pub all_bytes : List Entry → List ℕ
-all_bytes es = flat_map (λ e. (packed_of e).bytes) es
+abbrev pub bytes_in : Entry → List ℕ
+bytes_in e = (packed_of e).bytes
 
-abbrev pub all_values : List Entry → List (Option ℤ)
-all_values es = flat_map (λ e. (packed_of e).values) es
+abbrev pub values_in : Entry → List (Option ℤ)
+values_in e = (packed_of e).values
 
-abbrev pub all_whole : List Entry → List Entry
-all_whole es = flat_map (λ e. (packed_of e).whole) es
+abbrev pub whole_in : Entry → List Entry
+whole_in e = (packed_of e).whole
 
 -- all entries that were packed are unpacked again
-pub all_given : (es : List Entry) → entries_in (forms_of es) (all_numbers es) (all_bytes es) (all_values es) (all_whole es) ≡ es
+pub all_given : (es : List Entry) → entries_in (flat_map form_of es) (flat_map numbers_in es) (flat_map bytes_in es) (flat_map values_in es) (flat_map whole_in es) ≡ es
 all_given [] = refl
 all_given (e ∷ es) =
-    let first : Gives (packed_of e) e (all_numbers es) (all_bytes es) (all_values es) (all_whole es) = gives e (all_numbers es) (all_bytes es) (all_values es) (all_whole es) in
+    let first : Gives (packed_of e) e (flat_map numbers_in es) (flat_map bytes_in es) (flat_map values_in es) (flat_map whole_in es) = gives e (flat_map numbers_in es) (flat_map bytes_in es) (flat_map values_in es) (flat_map whole_in es) in
     rw first.entry (rw first.numbers (rw first.bytes (rw first.values (rw first.whole (ap (λ (more : List Entry). e ∷ more) (all_given es))))))
+
+-- parts have some entries, and together with the others they have them all
+pub record HaveWith (parts : Parts) (others all : List Entry) : Type 0 where
+  pub forms : parts.forms.items ++ flat_map form_of others ≡ flat_map form_of all
+  pub numbers : parts.numbers.items ++ flat_map numbers_in others ≡ flat_map numbers_in all
+  pub bytes : parts.bytes.items ++ flat_map bytes_in others ≡ flat_map bytes_in all
+  pub values : parts.values.items ++ flat_map values_in others ≡ flat_map values_in all
+  pub whole : parts.whole.items ++ flat_map whole_in others ≡ flat_map whole_in all
+
+-- one entry more
+pub have_more : (before after : Parts) (es : List Entry) (i : ℕ) (e : Entry) → i < length es → e ≡ get_or es i e → Adds (packed_of e) before after
+    → HaveWith before (drop i es) es → HaveWith after (drop (i + 1) es) es
+have_more before after es i e inside is adds now = record {
+  forms = next_added form_of es i e e before.forms.items after.forms.items (flat_map form_of es) inside is adds.forms now.forms;
+  numbers = next_added numbers_in es i e e before.numbers.items after.numbers.items (flat_map numbers_in es) inside is adds.numbers now.numbers;
+  bytes = next_added bytes_in es i e e before.bytes.items after.bytes.items (flat_map bytes_in es) inside is adds.bytes now.bytes;
+  values = next_added values_in es i e e before.values.items after.values.items (flat_map values_in es) inside is adds.values now.values;
+  whole = next_added whole_in es i e e before.whole.items after.whole.items (flat_map whole_in es) inside is adds.whole now.whole;
+}
+
+-- the parts of all entries give these entries
+pub have_all : (parts : Parts) (es : List Entry) (i : ℕ) → length es ≤ i → HaveWith parts (drop i es) es
+    → entries_in parts.forms.items parts.numbers.items parts.bytes.items parts.values.items parts.whole.items ≡ es
+have_all parts es i past now =
+    let forms = all_added form_of es i parts.forms.items (flat_map form_of es) past now.forms in
+    let numbers = all_added numbers_in es i parts.numbers.items (flat_map numbers_in es) past now.numbers in
+    let bytes = all_added bytes_in es i parts.bytes.items (flat_map bytes_in es) past now.bytes in
+    let values = all_added values_in es i parts.values.items (flat_map values_in es) past now.values in
+    let whole = all_added whole_in es i parts.whole.items (flat_map whole_in es) past now.whole in
+    rw forms (rw numbers (rw bytes (rw values (rw whole (all_given es)))))
+
+-- ---- entries are unpacked one after the other, and those before a place are left out
+
+pub entry_left_out : (from place : ℕ) (f : Form) (fs : List Form) (ns bs : List ℕ) (vs : List (Option ℤ)) (ws into whole : List Entry) → place < from
+    → into ++ drop (from - place) (entries_in (f ∷ fs) ns bs vs ws) ≡ whole
+    → into ++ drop (from - (place + 1)) (entries_in fs (drop (numbers_of f) ns) (drop (bytes_of f ns) bs) (drop (values_of f ns) vs) (drop (whole_of f) ws)) ≡ whole
+entry_left_out from place f fs ns bs vs ws into whole before now =
+    let one : from - place ≡ suc (from - (place + 1)) = omega arith in
+    ap (λ (n : ℕ). into ++ drop n (entries_in (f ∷ fs) ns bs vs ws)) (sym one) ∙ now
+
+pub entry_added : (from place : ℕ) (f : Form) (fs : List Form) (ns bs : List ℕ) (vs : List (Option ℤ)) (ws into whole : List Entry) → from ≤ place
+    → into ++ drop (from - place) (entries_in (f ∷ fs) ns bs vs ws) ≡ whole
+    → (into ++ entry_in f ns bs vs ws ∷ []) ++ drop (from - (place + 1)) (entries_in fs (drop (numbers_of f) ns) (drop (bytes_of f ns) bs) (drop (values_of f ns) vs) (drop (whole_of f) ws)) ≡ whole
+entry_added from place f fs ns bs vs ws into whole behind now =
+    let more : List Entry = entries_in fs (drop (numbers_of f) ns) (drop (bytes_of f ns) bs) (drop (values_of f ns) vs) (drop (whole_of f) ws) in
+    let here : from - place ≡ 0 = omega arith in
+    let next : from - (place + 1) ≡ 0 = omega arith in
+    ap (λ (n : ℕ). (into ++ entry_in f ns bs vs ws ∷ []) ++ drop n more) next
+    ∙ append_assoc into (entry_in f ns bs vs ws ∷ []) more
+    ∙ ap (λ (n : ℕ). into ++ drop n (entries_in (f ∷ fs) ns bs vs ws)) (sym here)
+    ∙ now

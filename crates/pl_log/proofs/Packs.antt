@@ -1,6 +1,6 @@
 -- Packs of 256 entries, one after the other.
-use Rattle.std.proofs.Common.{◌≡◌, ◌+◌, ◌-◌, ◌*◌, ◌/◌, ◌%◌, ◌<◌, ◌≤◌, ◌++◌, ◌∙◌, refl, ap, sym, ℕ, zero, suc, List, [], ◌∷◌, length, drop, arith, length-append, length-drop, drop_at, drop-drop}
-use Rattle.std.proofs.lemmas.List.{drop-append-le}
+use Rattle.std.proofs.Common.{◌≡◌, ◌+◌, ◌-◌, ◌*◌, ◌/◌, ◌%◌, ◌<◌, ◌≤◌, ◌++◌, ◌∙◌, refl, ap, sym, subst, ℕ, zero, suc, List, [], ◌∷◌, length, get_or, drop, arith, append_assoc, append-nil, length-append, length-drop, drop_at, drop-drop}
+use Rattle.std.proofs.lemmas.List.{drop-append-le, drop_more, at_drop_all}
 use Rattle.std.proofs.lemmas.Nat.{div-add-mod'}
 use Rattle.std.proofs.Math.Nat.{mod-lt}
 use Rattle.pl_entry.specs.declared.entry.Entry.{Entry}
@@ -29,6 +29,31 @@ joined_back (suc n) [] full = drop_none (suc n * 256)
 joined_back (suc n) (p ∷ packs) full =
     let further : suc n * 256 ≡ 256 + n * 256 = omega arith in
     rw further (rw (← drop-drop (n * 256) 256 (p ++ joined packs)) (rw (drop_at p (joined packs) 256 full.0) (joined_back n packs full.1)))
+
+pub next_pack : (packs : List (List Entry)) (i : ℕ) (pack : List Entry) → i < length packs → pack ≡ get_or packs i pack → drop i packs ≡ pack ∷ drop (i + 1) packs
+next_pack packs i pack inside is = drop_more packs i pack inside ∙ ap (λ (p : List Entry). p ∷ drop (i + 1) packs) (sym is)
+
+-- one pack further, the entries that stand and those that are to come are the whole as before
+pub pack_unpacked : (packs : List (List Entry)) (i from : ℕ) (pack before after whole : List Entry) → i < length packs → pack ≡ get_or packs i pack → AreFull packs → from < 256
+    → after ≡ before ++ drop from pack → before ++ drop from (joined (drop i packs)) ≡ whole → after ++ joined (drop (i + 1) packs) ≡ whole
+pack_unpacked packs i from pack before after whole inside is full small adds now =
+    let more : List Entry = joined (drop (i + 1) packs) in
+    let next : drop i packs ≡ pack ∷ drop (i + 1) packs = next_pack packs i pack inside is in
+    let here : AreFull (pack ∷ drop (i + 1) packs) = subst AreFull next (full_back i packs full) in
+    let long : length pack ≡ 256 = here.0 in
+    let within : from ≤ length pack = omega (arith, long, small) in
+    ap (λ (es : List Entry). es ++ more) adds
+    ∙ append_assoc before (drop from pack) more
+    ∙ ap (λ (es : List Entry). before ++ es) (sym (drop-append-le from pack more within))
+    ∙ ap (λ (ps : List (List Entry)). before ++ drop from (joined ps)) (sym next)
+    ∙ now
+
+pub all_packs_unpacked : (packs : List (List Entry)) (i from : ℕ) (stands whole : List Entry) → length packs ≤ i → stands ++ drop from (joined (drop i packs)) ≡ whole → stands ≡ whole
+all_packs_unpacked packs i from stands whole past now =
+    sym (append-nil stands)
+    ∙ ap (λ (es : List Entry). stands ++ es) (sym (drop_none from))
+    ∙ sym (at_drop_all (λ (ps : List (List Entry)). stands ++ drop from (joined ps)) packs i past)
+    ∙ now
 
 -- behind some entries of the packs
 pub behind_packed : (from : ℕ) (packs : List (List Entry)) (newest : List Entry) → AreFull packs → from / 256 < length packs

@@ -1,5 +1,5 @@
 -- How numbers are kept in few bytes.
-use Rattle.std.specs.Prelude.{ℕ, zero, suc, ◌+◌, ◌*◌, ◌/◌, ◌%◌, nat_lt, List, [], ◌∷◌, drop, slice_index_or, if◌then◌else◌}
+use Rattle.std.specs.Prelude.{ℕ, zero, suc, ◌+◌, ◌*◌, ◌/◌, ◌%◌, nat_lt, List, [], ◌∷◌, drop, slice_index, if◌then◌else◌}
 use Rattle.std.specs.List.{flat_map}
 
 -- One byte for a number below 254. Else the byte 254 and two more, or the byte 255 and four more, the highest first.
@@ -13,22 +13,18 @@ packed n =
 abbrev pub all_packed : List ℕ → List ℕ
 all_packed ns = flat_map packed ns
 
--- the byte at a place, and 0 behind the end
-abbrev pub byte_at : List ℕ → ℕ → ℕ
-byte_at bytes i = slice_index_or bytes i 0
-
--- the number that these bytes begin with
+-- the number that these bytes begin with; a byte that is missing is 0
 abbrev pub unpacked : List ℕ → ℕ
 unpacked bytes =
-    if nat_lt (byte_at bytes 0) 254 then byte_at bytes 0
-    else if nat_lt (byte_at bytes 0) 255 then byte_at bytes 1 * 256 + byte_at bytes 2
-    else byte_at bytes 1 * 16777216 + byte_at bytes 2 * 65536 + byte_at bytes 3 * 256 + byte_at bytes 4
+    if nat_lt (slice_index bytes 0) 254 then slice_index bytes 0
+    else if nat_lt (slice_index bytes 0) 255 then slice_index bytes 1 * 256 + slice_index bytes 2
+    else slice_index bytes 1 * 16777216 + slice_index bytes 2 * 65536 + slice_index bytes 3 * 256 + slice_index bytes 4
 
 -- how many bytes it has
 abbrev pub width : List ℕ → ℕ
 width bytes =
-    if nat_lt (byte_at bytes 0) 254 then 1
-    else if nat_lt (byte_at bytes 0) 255 then 3
+    if nat_lt (slice_index bytes 0) 254 then 1
+    else if nat_lt (slice_index bytes 0) 255 then 3
     else 5
 
 -- so many numbers

@@ -1,5 +1,5 @@
--- The entry that was packed.
-use Rattle.std.specs.Prelude.{ℕ, ℤ, pos, List, [], ◌∷◌, take, drop, slice_index_or, Option, Some, None}
+-- The entry that was packed. A number that is missing is 0.
+use Rattle.std.specs.Prelude.{ℕ, ℤ, pos, List, [], ◌∷◌, take, drop, slice_index, Option, Some, None}
 use Rattle.pl_conflict.specs.declared.conflict.Conflict.{Conflict}
 use Rattle.pl_conflict.specs.declared.conflict.Code.{Code}
 use Rattle.pl_plan.specs.declared.repair.RepairMove.{RepairMove}
@@ -11,10 +11,6 @@ use Rattle.pl_log.specs.declared.form.Form.{Form}
 use Rattle.pl_log.specs.declared.form.Form.TheVariants as form
 use Rattle.pl_log.specs.declared.form.MoveForm.{MoveForm}
 use Rattle.pl_log.specs.declared.form.MoveForm.TheVariants as of
-
--- the number at a place, and 0 behind the end
-abbrev pub number_at : List ℕ → ℕ → ℕ
-number_at ns i = slice_index_or ns i 0
 
 -- the first value, and 0 if there is none
 abbrev pub first_value : List (Option ℤ) → ℤ
@@ -28,27 +24,27 @@ first_whole [] = record { event = event.Close; reply = reply.Done }
 first_whole (e ∷ es) = e
 
 abbrev pub conflict_in : Code → List ℕ → Conflict
-conflict_in code ns = record { from = number_at ns 0; code = code; subject = number_at ns 1; detail = number_at ns 2; a = number_at ns 3; b = number_at ns 4 }
+conflict_in code ns = record { from = slice_index ns 0; code = code; subject = slice_index ns 1; detail = slice_index ns 2; a = slice_index ns 3; b = slice_index ns 4 }
 
 -- behind the five numbers of the conflict
 abbrev pub move_in : MoveForm → List ℕ → List (Option ℤ) → RepairMove
-move_in of.Add ns vs = repair.Add (number_at ns 5) (number_at ns 6) None
-move_in of.AddFor ns vs = repair.Add (number_at ns 5) (number_at ns 6) (Some (number_at ns 7))
-move_in of.Delete ns vs = repair.Delete (number_at ns 5)
-move_in of.Shift ns vs = repair.Shift (number_at ns 5) (number_at ns 6)
-move_in of.Detail ns vs = repair.Detail (number_at ns 5) (number_at ns 6)
-move_in of.Abstract ns vs = repair.Abstract (number_at ns 5)
-move_in (of.Assign param) ns vs = repair.Assign (number_at ns 5) param (first_value vs)
-move_in of.Drop ns vs = repair.Drop (number_at ns 5)
+move_in of.Add ns vs = repair.Add (slice_index ns 5) (slice_index ns 6) None
+move_in of.AddFor ns vs = repair.Add (slice_index ns 5) (slice_index ns 6) (Some (slice_index ns 7))
+move_in of.Delete ns vs = repair.Delete (slice_index ns 5)
+move_in of.Shift ns vs = repair.Shift (slice_index ns 5) (slice_index ns 6)
+move_in of.Detail ns vs = repair.Detail (slice_index ns 5) (slice_index ns 6)
+move_in of.Abstract ns vs = repair.Abstract (slice_index ns 5)
+move_in (of.Assign param) ns vs = repair.Assign (slice_index ns 5) param (first_value vs)
+move_in of.Drop ns vs = repair.Drop (slice_index ns 5)
 
 -- the entry of a form, from what the parts begin with
 abbrev pub entry_in : Form → List ℕ → List ℕ → List (Option ℤ) → List Entry → Entry
 entry_in form.Whole ns bs vs ws = first_whole ws
-entry_in form.Message ns bs vs ws = record { event = event.Input (Some (take (number_at ns 0) bs)); reply = reply.Done }
+entry_in form.Message ns bs vs ws = record { event = event.Input (Some (take (slice_index ns 0) bs)); reply = reply.Done }
 entry_in (form.Fix code f) ns bs vs ws = record { event = event.Fix (conflict_in code ns) (move_in f ns vs); reply = reply.Done }
 entry_in (form.Rest reason) ns bs vs ws = record { event = event.Rest; reply = reply.Rested reason }
-entry_in form.Commit ns bs vs ws = record { event = event.Commit (number_at ns 0); reply = reply.Done }
-entry_in form.Command ns bs vs ws = record { event = event.Dispatch; reply = reply.Sent (number_at ns 0) (number_at ns 1) (number_at ns 2) (take (number_at ns 3) vs) }
+entry_in form.Commit ns bs vs ws = record { event = event.Commit (slice_index ns 0); reply = reply.Done }
+entry_in form.Command ns bs vs ws = record { event = event.Dispatch; reply = reply.Sent (slice_index ns 0) (slice_index ns 1) (slice_index ns 2) (take (slice_index ns 3) vs) }
 entry_in form.Close ns bs vs ws = record { event = event.Close; reply = reply.Done }
 
 -- ---- how much of each part an entry has
@@ -73,7 +69,7 @@ numbers_of form.Command = 4
 numbers_of form.Close = 0
 
 abbrev pub bytes_of : Form → List ℕ → ℕ
-bytes_of form.Message ns = number_at ns 0
+bytes_of form.Message ns = slice_index ns 0
 bytes_of _ ns = 0
 
 abbrev pub values_of_move : MoveForm → ℕ
@@ -82,7 +78,7 @@ values_of_move _ = 0
 
 abbrev pub values_of : Form → List ℕ → ℕ
 values_of (form.Fix code f) ns = values_of_move f
-values_of form.Command ns = number_at ns 3
+values_of form.Command ns = slice_index ns 3
 values_of _ ns = 0
 
 abbrev pub whole_of : Form → ℕ

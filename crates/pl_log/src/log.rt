@@ -112,11 +112,20 @@ impl Log {
     {
         let entries = self.entries_from(alloc, 0)?;
         let mut log = Log::new(alloc);
-        for entry in entries.into_vec() {
-            log.reserve()?;
-            log.push(entry);
-        }
+        log.append(entries.as_slice())?;
         Ok(log)
+    }
+
+    // Appends copies of entries.
+    fn append(&mut self, entries: &[Entry]) -> Result<(), AllocError>
+        ensures { OnOk result (self.new.entries ≡ self.old.entries ++ entries.now) }
+    {
+        for entry in entries {
+            let copied = entry.copy(self.alloc)?;
+            self.reserve()?;
+            self.push(copied);
+        }
+        Ok(())
     }
 }
 

@@ -1,5 +1,5 @@
-ghost use Rattle.std.specs.Prelude.{◌≡◌, ◌+◌, ◌*◌, ◌++◌, IfOk, OnOk};
-ghost use Rattle.pl_log.specs.Numbers.{packed, byte_at, unpacked, width};
+ghost use Rattle.std.specs.Prelude.{◌≡◌, ◌+◌, ◌*◌, ◌++◌, slice_index, IfOk, OnOk};
+ghost use Rattle.pl_log.specs.Numbers.{packed, unpacked, width};
 
 use crate::reading::after;
 use std::alloc::{AllocError, Global};
@@ -43,8 +43,9 @@ fn push_packed(bytes: &mut Vec<u8>, number: u32) -> Result<(), AllocError>
     Ok(())
 }
 
+// The byte at a place, and 0 behind the end.
 fn byte_at(bytes: &[u8], place: usize) -> u8
-    ensures { result ≡ byte_at bytes.now place }
+    ensures { result ≡ slice_index bytes.now place }
 {
     bytes.get(place).copied().unwrap_or(0)
 }

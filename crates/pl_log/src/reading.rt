@@ -1,5 +1,5 @@
-ghost use Rattle.std.specs.Prelude.{◌≡◌, take, drop};
-ghost use Rattle.pl_log.specs.Unpacking.{number_at, first_value, conflict_in, move_in};
+ghost use Rattle.std.specs.Prelude.{◌≡◌, take, drop, slice_index};
+ghost use Rattle.pl_log.specs.Unpacking.{first_value, conflict_in, move_in};
 
 use crate::form::MoveForm;
 use pl_conflict::{Code, Conflict};
@@ -29,7 +29,7 @@ pub(crate) fn first_of<T>(items: &[T], count: usize) -> &[T]
 
 /// The number at a place, and 0 behind the end.
 pub(crate) fn number_at(numbers: &[u32], place: usize) -> u32
-    ensures { result ≡ number_at numbers.now place }
+    ensures { result ≡ slice_index numbers.now place }
 {
     numbers.get(place).copied().unwrap_or(0)
 }
