@@ -35,12 +35,13 @@ pub all_back : (ns : List ℕ) → all_unpacked (length ns) (all_packed ns) ≡ 
 all_back ns = ap (λ (bytes : List ℕ). all_unpacked (length ns) bytes) (sym (append-nil (all_packed ns))) ∙ all_begin ns []
 
 -- one number further, the numbers that stand and those that are to come are the whole as before
-pub one_unpacked : (count i : ℕ) (rest before after whole : List ℕ) → i < count → after ≡ before ++ unpacked rest ∷ [] → before ++ all_unpacked (count - i) rest ≡ whole
-    → after ++ all_unpacked (count - (i + 1)) (drop (width rest) rest) ≡ whole
-one_unpacked count i rest before after whole inside adds now =
-    let more : List ℕ = all_unpacked (count - (i + 1)) (drop (width rest) rest) in
-    let next : count - i ≡ suc (count - (i + 1)) = omega arith in
-    ap (λ (ns : List ℕ). ns ++ more) adds
-    ∙ append_assoc before (unpacked rest ∷ []) more
-    ∙ ap (λ (n : ℕ). before ++ all_unpacked n rest) (sym next)
+pub one_unpacked : (count i number wide : ℕ) (rest next before after whole : List ℕ) → i < count → number ≡ unpacked rest → wide ≡ width rest → next ≡ drop wide rest
+    → after ≡ before ++ number ∷ [] → before ++ all_unpacked (count - i) rest ≡ whole → after ++ all_unpacked (count - (i + 1)) next ≡ whole
+one_unpacked count i number wide rest next before after whole inside is has follows adds now =
+    let left : ℕ = count - (i + 1) in
+    let one : count - i ≡ suc left = omega arith in
+    ap (λ (ns : List ℕ). ns ++ all_unpacked left next) (adds ∙ ap (λ (n : ℕ). before ++ n ∷ []) is)
+    ∙ ap (λ (bytes : List ℕ). (before ++ unpacked rest ∷ []) ++ all_unpacked left bytes) (follows ∙ ap (λ (n : ℕ). drop n rest) has)
+    ∙ append_assoc before (unpacked rest ∷ []) (all_unpacked left (drop (width rest) rest))
+    ∙ ap (λ (n : ℕ). before ++ all_unpacked n rest) (sym one)
     ∙ now

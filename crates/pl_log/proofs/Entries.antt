@@ -1,7 +1,8 @@
 -- An entry that was packed is unpacked again.
-use Rattle.std.proofs.Common.{◌≡◌, ◌+◌, ◌-◌, ◌<◌, ◌≤◌, ◌++◌, ◌∙◌, refl, ap, sym, ℕ, ℤ, suc, List, [], ◌∷◌, length, get_or, take, drop, Option, Some, None, ltb, true, false, arith, append_assoc, take_at, drop_at}
+use Rattle.std.proofs.Common.{◌≡◌, ◌+◌, ◌-◌, ◌<◌, ◌≤◌, ◌++◌, ◌∙◌, refl, ap, sym, ℕ, ℤ, suc, List, [], ◌∷◌, length, get_or, take, drop, Option, Some, None, ltb, true, false, arith, append_assoc, append-nil, take_at, drop_at}
 use Rattle.std.specs.List.{flat_map}
 use Rattle.std.proofs.lemmas.Bool.{cond_both}
+use Rattle.std.proofs.lemmas.List.{drop_more, drop_all, at_drop_all}
 use Rattle.pl_conflict.specs.declared.conflict.Conflict.{Conflict}
 use Rattle.pl_plan.specs.declared.repair.RepairMove.{RepairMove}
 use Rattle.pl_plan.specs.declared.repair.RepairMove.TheVariants as repair
@@ -136,21 +137,50 @@ have_all parts es i past now =
 
 -- ---- entries are unpacked one after the other, and those before a place are left out
 
-pub entry_left_out : (from place : ℕ) (f : Form) (fs : List Form) (ns bs : List ℕ) (vs : List (Option ℤ)) (ws into whole : List Entry) → place < from
-    → into ++ drop (from - place) (entries_in (f ∷ fs) ns bs vs ws) ≡ whole
-    → into ++ drop (from - (place + 1)) (entries_in fs (drop (numbers_of f) ns) (drop (bytes_of f ns) bs) (drop (values_of f ns) vs) (drop (whole_of f) ws)) ≡ whole
-entry_left_out from place f fs ns bs vs ws into whole before now =
-    let one : from - place ≡ suc (from - (place + 1)) = omega arith in
-    ap (λ (n : ℕ). into ++ drop n (entries_in (f ∷ fs) ns bs vs ws)) (sym one) ∙ now
+-- what stands behind an entry of a form
+pub record StandsBehind (f : Form) (ns bs : List ℕ) (vs : List (Option ℤ)) (ws : List Entry) (ns' bs' : List ℕ) (vs' : List (Option ℤ)) (ws' : List Entry) : Type 0 where
+  pub numbers : ns' ≡ drop (numbers_of f) ns
+  pub bytes : bs' ≡ drop (bytes_of f ns) bs
+  pub values : vs' ≡ drop (values_of f ns) vs
+  pub whole : ws' ≡ drop (whole_of f) ws
 
-pub entry_added : (from place : ℕ) (f : Form) (fs : List Form) (ns bs : List ℕ) (vs : List (Option ℤ)) (ws into whole : List Entry) → from ≤ place
-    → into ++ drop (from - place) (entries_in (f ∷ fs) ns bs vs ws) ≡ whole
-    → (into ++ entry_in f ns bs vs ws ∷ []) ++ drop (from - (place + 1)) (entries_in fs (drop (numbers_of f) ns) (drop (bytes_of f ns) bs) (drop (values_of f ns) vs) (drop (whole_of f) ws)) ≡ whole
-entry_added from place f fs ns bs vs ws into whole behind now =
-    let more : List Entry = entries_in fs (drop (numbers_of f) ns) (drop (bytes_of f ns) bs) (drop (values_of f ns) vs) (drop (whole_of f) ws) in
+-- the next entry, and those behind it
+pub next_entry : (fs : List Form) (i : ℕ) (d f : Form) (ns bs : List ℕ) (vs : List (Option ℤ)) (ws : List Entry) (ns' bs' : List ℕ) (vs' : List (Option ℤ)) (ws' : List Entry)
+    → i < length fs → f ≡ get_or fs i d → StandsBehind f ns bs vs ws ns' bs' vs' ws'
+    → entries_in (drop i fs) ns bs vs ws ≡ entry_in f ns bs vs ws ∷ entries_in (drop (i + 1) fs) ns' bs' vs' ws'
+next_entry fs i d f ns bs vs ws ns' bs' vs' ws' inside is behind =
+    let e : Entry = entry_in f ns bs vs ws in
+    let more : List Form = drop (i + 1) fs in
+    ap (λ (gs : List Form). entries_in gs ns bs vs ws) (drop_more fs i d inside ∙ ap (λ (g : Form). g ∷ more) (sym is))
+    ∙ ap (λ (xs : List ℕ). e ∷ entries_in more xs (drop (bytes_of f ns) bs) (drop (values_of f ns) vs) (drop (whole_of f) ws)) (sym behind.numbers)
+    ∙ ap (λ (xs : List ℕ). e ∷ entries_in more ns' xs (drop (values_of f ns) vs) (drop (whole_of f) ws)) (sym behind.bytes)
+    ∙ ap (λ (xs : List (Option ℤ)). e ∷ entries_in more ns' bs' xs (drop (whole_of f) ws)) (sym behind.values)
+    ∙ ap (λ (xs : List Entry). e ∷ entries_in more ns' bs' vs' xs) (sym behind.whole)
+
+pub entry_left_out : (from place : ℕ) (e : Entry) (es more before whole : List Entry) → place < from → es ≡ e ∷ more → before ++ drop (from - place) es ≡ whole
+    → before ++ drop (from - (place + 1)) more ≡ whole
+entry_left_out from place e es more before whole out is now =
+    let one : from - place ≡ suc (from - (place + 1)) = omega arith in
+    ap (λ (n : ℕ). before ++ drop n (e ∷ more)) (sym one) ∙ ap (λ (xs : List Entry). before ++ drop (from - place) xs) (sym is) ∙ now
+
+pub entry_added : (from place : ℕ) (e : Entry) (es more before after whole : List Entry) → from ≤ place → es ≡ e ∷ more → after ≡ before ++ e ∷ [] → before ++ drop (from - place) es ≡ whole
+    → after ++ drop (from - (place + 1)) more ≡ whole
+entry_added from place e es more before after whole inside is adds now =
     let here : from - place ≡ 0 = omega arith in
     let next : from - (place + 1) ≡ 0 = omega arith in
-    ap (λ (n : ℕ). (into ++ entry_in f ns bs vs ws ∷ []) ++ drop n more) next
-    ∙ append_assoc into (entry_in f ns bs vs ws ∷ []) more
-    ∙ ap (λ (n : ℕ). into ++ drop n (entries_in (f ∷ fs) ns bs vs ws)) (sym here)
+    ap (λ (n : ℕ). after ++ drop n more) next
+    ∙ ap (λ (xs : List Entry). xs ++ more) adds
+    ∙ append_assoc before (e ∷ []) more
+    ∙ ap (λ (n : ℕ). before ++ drop n (e ∷ more)) (sym here)
+    ∙ ap (λ (xs : List Entry). before ++ drop (from - place) xs) (sym is)
+    ∙ now
+
+pub all_entries_unpacked : (fs : List Form) (i n : ℕ) (ns bs : List ℕ) (vs : List (Option ℤ)) (ws stands whole : List Entry) → length fs ≤ i → stands ++ drop n (entries_in (drop i fs) ns bs vs ws) ≡ whole
+    → stands ≡ whole
+all_entries_unpacked fs i n ns bs vs ws stands whole past now =
+    let none : List Entry = [] in
+    let nothing : drop n none ≡ none = drop_all n none (omega arith) in
+    sym (append-nil stands)
+    ∙ ap (λ (es : List Entry). stands ++ es) (sym nothing)
+    ∙ sym (at_drop_all (λ (gs : List Form). stands ++ drop n (entries_in gs ns bs vs ws)) fs i past)
     ∙ now

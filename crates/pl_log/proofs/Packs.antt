@@ -1,6 +1,6 @@
 -- Packs of 256 entries, one after the other.
 use Rattle.std.proofs.Common.{◌≡◌, ◌+◌, ◌-◌, ◌*◌, ◌/◌, ◌%◌, ◌<◌, ◌≤◌, ◌++◌, ◌∙◌, refl, ap, sym, subst, ℕ, zero, suc, List, [], ◌∷◌, length, get_or, drop, arith, append_assoc, append-nil, length-append, length-drop, drop_at, drop-drop}
-use Rattle.std.proofs.lemmas.List.{drop-append-le, drop_more, at_drop_all}
+use Rattle.std.proofs.lemmas.List.{drop-append-le, drop_more, drop_all, at_drop_all}
 use Rattle.std.proofs.lemmas.Nat.{div-add-mod'}
 use Rattle.std.proofs.Math.Nat.{mod-lt}
 use Rattle.pl_entry.specs.declared.entry.Entry.{Entry}
@@ -19,13 +19,9 @@ full_back zero packs full = full
 full_back (suc n) [] full = full
 full_back (suc n) (p ∷ packs) full = full_back n packs full.1
 
-drop_none : (n : ℕ) → drop n (joined []) ≡ joined []
-drop_none zero = refl
-drop_none (suc n) = refl
-
 pub joined_back : (n : ℕ) (packs : List (List Entry)) → AreFull packs → drop (n * 256) (joined packs) ≡ joined (drop n packs)
 joined_back zero packs full = refl
-joined_back (suc n) [] full = drop_none (suc n * 256)
+joined_back (suc n) [] full = drop_all (suc n * 256) (joined []) (omega arith)
 joined_back (suc n) (p ∷ packs) full =
     let further : suc n * 256 ≡ 256 + n * 256 = omega arith in
     rw further (rw (← drop-drop (n * 256) 256 (p ++ joined packs)) (rw (drop_at p (joined packs) 256 full.0) (joined_back n packs full.1)))
@@ -50,8 +46,10 @@ pack_unpacked packs i from pack before after whole inside is full small adds now
 
 pub all_packs_unpacked : (packs : List (List Entry)) (i from : ℕ) (stands whole : List Entry) → length packs ≤ i → stands ++ drop from (joined (drop i packs)) ≡ whole → stands ≡ whole
 all_packs_unpacked packs i from stands whole past now =
+    let none : List Entry = [] in
+    let nothing : drop from none ≡ none = drop_all from none (omega arith) in
     sym (append-nil stands)
-    ∙ ap (λ (es : List Entry). stands ++ es) (sym (drop_none from))
+    ∙ ap (λ (es : List Entry). stands ++ es) (sym nothing)
     ∙ sym (at_drop_all (λ (ps : List (List Entry)). stands ++ drop from (joined ps)) packs i past)
     ∙ now
 

@@ -2,7 +2,7 @@ use pl_conflict::Code;
 use pl_entry::Reason;
 
 /// Which repair a packed entry has. Its numbers stand apart.
-#[derive(Clone, Copy, Debug, PartialEq, Eq)]
+#[derive(Clone, Copy)]
 pub(crate) enum MoveForm {
     /// An activity that stands for no goal was added.
     Add,
@@ -18,7 +18,7 @@ pub(crate) enum MoveForm {
 }
 
 /// What a packed entry is, apart from its numbers. Nearly all entries of a run have one of the short forms.
-#[derive(Clone, Copy, Debug, PartialEq, Eq)]
+#[derive(Clone, Copy)]
 pub(crate) enum Form {
     /// Any entry, kept as it is.
     Whole,

@@ -89,7 +89,8 @@ impl Parts {
             conflict.a,
             conflict.b,
         ])?;
-        self.put_parts(Form::Fix(conflict.code, form), numbers, &[], values)
+        self.put_parts(Form::Fix(conflict.code, form), numbers, &[], values)?;
+        Ok(())
     }
 
     fn put_fix_of(

@@ -107,7 +107,7 @@ impl<'a> Rest<'a> {
         ensures { IfOk result (λ e. e ≡ entry_in Message self.now.numbers.now self.now.bytes.now self.now.values.now self.now.whole.now) }
     {
         let line = first_of(self.bytes, number_at(self.numbers, 0) as usize);
-        let line = Items::from_vec(line.to_vec(alloc)?);
+        let line = Items::from_vec(Vec::from_slice(alloc, line)?);
         Ok(done(Event::Input(Some(line))))
     }
 
@@ -119,7 +119,7 @@ impl<'a> Rest<'a> {
             id: number_at(self.numbers, 0),
             kind: number_at(self.numbers, 1),
             start: number_at(self.numbers, 2),
-            values: Items::from_vec(values.to_vec(alloc)?),
+            values: Items::from_vec(Vec::from_slice(alloc, values)?),
         };
         Ok(Entry {
             event: Event::Dispatch,
