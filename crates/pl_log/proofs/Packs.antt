@@ -1,6 +1,8 @@
 -- Packs of 256 entries, one after the other.
 use Rattle.std.proofs.Common.{◌≡◌, ◌+◌, ◌-◌, ◌*◌, ◌/◌, ◌%◌, ◌<◌, ◌≤◌, ◌++◌, ◌∙◌, refl, ap, sym, subst, ℕ, zero, suc, List, [], ◌∷◌, length, get_or, drop, arith, append_assoc, append-nil, length-append, length-drop, drop_at, drop-drop}
 use Rattle.std.proofs.lemmas.List.{drop-append-le, drop_more, drop_all, at_drop_all}
+use Rattle.std.proofs.lemmas.List.Elements.{All-push}
+use Rattle.std.proofs.lemmas.Grind.{flat_map-append}
 use Rattle.std.proofs.lemmas.Nat.{div-add-mod'}
 use Rattle.std.proofs.Math.Nat.{mod-lt}
 use Rattle.pl_entry.specs.declared.entry.Entry.{Entry}
@@ -13,6 +15,12 @@ length_joined (p ∷ packs) full =
     let more = length_joined packs full.1 in
     let one = full.0 in
     omega (arith, here, more, one)
+
+pub full_push : (packs : List (List Entry)) (pack : List Entry) → AreFull packs → length pack ≡ 256 → AreFull (packs ++ pack ∷ [])
+full_push packs pack full long = All-push (λ (p : List Entry). length p ≡ 256) packs pack full long
+
+pub joined_push : (packs : List (List Entry)) (pack : List Entry) → joined (packs ++ pack ∷ []) ≡ joined packs ++ pack
+joined_push packs pack = flat_map-append (λ (p : List Entry). p) packs (pack ∷ []) ∙ ap (λ (es : List Entry). joined packs ++ es) (append-nil pack)
 
 pub full_back : (n : ℕ) (packs : List (List Entry)) → AreFull packs → AreFull (drop n packs)
 full_back zero packs full = full

@@ -46,6 +46,7 @@ impl Log {
     }
 
     /// How many entries there are.
+    #[tactic(auto, using(crate::proofs::Packs::length_joined))]
     pub fn len(&self) -> usize
         ensures { result ≡ length self.now.entries }
     {
@@ -53,6 +54,7 @@ impl Log {
     }
 
     /// Makes a place for one more entry.
+    #[tactic(auto, using(crate::proofs::Packs::joined_push, crate::proofs::Packs::full_push))]
     pub fn reserve(&mut self) -> Result<(), AllocError>
         ensures entries { self.new.entries ≡ self.old.entries }
         ensures place { OnOk result (self.new.has_place ≡ true) }
@@ -80,6 +82,7 @@ impl Log {
     }
 
     /// The entries behind so many, as they stand in the log; none where some of them are packed.
+    #[tactic(auto, using(crate::proofs::Packs::behind_newest))]
     pub fn newest_from(&self, from: usize) -> Option<&[Entry]>
         ensures { IfSome result (λ entries. entries.now ≡ drop from self.now.entries) }
     {
@@ -91,6 +94,7 @@ impl Log {
     }
 
     /// The entries behind so many, with memory of their own.
+    #[tactic(auto, using(crate::proofs::Packs::behind_packed, crate::proofs::Packs::behind_newest, crate::proofs::Packs::full_back))]
     pub fn entries_from(&self, alloc: Global, from: usize) -> Result<Items<Entry>, AllocError>
         ensures { IfOk result (λ entries. entries ≡ drop from self.now.entries) }
     {
