@@ -1,7 +1,7 @@
 -- Packs of 256 entries, one after the other.
 use Rattle.std.proofs.Common.{◌≡◌, ◌+◌, ◌-◌, ◌*◌, ◌/◌, ◌%◌, ◌<◌, ◌≤◌, ◌++◌, ◌∙◌, refl, ap, sym, subst, ℕ, zero, suc, List, [], ◌∷◌, length, get_or, drop, arith, append_assoc, append-nil, length-append, length-drop, drop_at, drop-drop}
 use Rattle.std.proofs.lemmas.List.{drop-append-le, drop_more, drop_all, at_drop_all}
-use Rattle.std.proofs.lemmas.List.Elements.{All-push}
+use Rattle.std.proofs.lemmas.List.Elements.{All-push, All-drop}
 use Rattle.std.proofs.lemmas.Grind.{flat_map-append}
 use Rattle.std.proofs.lemmas.Nat.{div-add-mod'}
 use Rattle.std.proofs.Math.Nat.{mod-lt}
@@ -23,9 +23,7 @@ pub joined_push : (packs : List (List Entry)) (pack : List Entry) → joined (pa
 joined_push packs pack = flat_map-append (λ (p : List Entry). p) packs (pack ∷ []) ∙ ap (λ (es : List Entry). joined packs ++ es) (append-nil pack)
 
 pub full_back : (n : ℕ) (packs : List (List Entry)) → AreFull packs → AreFull (drop n packs)
-full_back zero packs full = full
-full_back (suc n) [] full = full
-full_back (suc n) (p ∷ packs) full = full_back n packs full.1
+full_back n packs full = All-drop (λ (p : List Entry). length p ≡ 256) n packs full
 
 pub joined_back : (n : ℕ) (packs : List (List Entry)) → AreFull packs → drop (n * 256) (joined packs) ≡ joined (drop n packs)
 joined_back zero packs full = refl
