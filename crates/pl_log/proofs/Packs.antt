@@ -1,19 +1,28 @@
 -- Packs of 256 entries, one after the other.
 use Rattle.std.proofs.Common.{◌≡◌, ◌+◌, ◌-◌, ◌*◌, ◌/◌, ◌%◌, ◌<◌, ◌≤◌, ◌++◌, ◌∙◌, refl, ap, sym, subst, ℕ, zero, suc, List, [], ◌∷◌, length, get_or, drop, arith, append_assoc, append-nil, length-append, length-drop, drop_at, drop-drop}
 use Rattle.std.proofs.lemmas.List.{drop-append-le, drop_more, drop_all, at_drop_all}
-use Rattle.std.proofs.lemmas.List.Elements.{All-push, All-drop}
+use Rattle.std.proofs.lemmas.List.Elements.{All-push, All-drop, All-tail}
 use Rattle.std.proofs.lemmas.Grind.{flat_map-append}
 use Rattle.std.proofs.lemmas.Nat.{div-add-mod'}
 use Rattle.std.proofs.Math.Nat.{mod-lt}
 use Rattle.pl_entry.specs.declared.entry.Entry.{Entry}
 use Rattle.pl_log.specs.Logged.{joined, AreFull}
 
+-- the first of full packs, and the others
+full_first : (pack : List Entry) (packs : List (List Entry)) → AreFull (pack ∷ packs) → length pack ≡ 256
+full_first pack packs full =
+    let some : 0 < length (pack ∷ packs) = omega arith in
+    full 0 pack some
+
+full_others : (pack : List Entry) (packs : List (List Entry)) → AreFull (pack ∷ packs) → AreFull packs
+full_others pack packs full = All-tail (λ (p : List Entry). length p ≡ 256) pack packs full
+
 pub length_joined : (packs : List (List Entry)) → AreFull packs → length (joined packs) ≡ length packs * 256
 length_joined [] full = refl
 length_joined (p ∷ packs) full =
     let here : length (p ++ joined packs) ≡ length p + length (joined packs) = length-append p (joined packs) in
-    let more = length_joined packs full.1 in
-    let one = full.0 in
+    let more = length_joined packs (full_others p packs full) in
+    let one = full_first p packs full in
     omega (arith, here, more, one)
 
 pub full_push : (packs : List (List Entry)) (pack : List Entry) → AreFull packs → length pack ≡ 256 → AreFull (packs ++ pack ∷ [])
@@ -30,7 +39,7 @@ joined_back zero packs full = refl
 joined_back (suc n) [] full = drop_all (suc n * 256) (joined []) (omega arith)
 joined_back (suc n) (p ∷ packs) full =
     let further : suc n * 256 ≡ 256 + n * 256 = omega arith in
-    rw further (rw (← drop-drop (n * 256) 256 (p ++ joined packs)) (rw (drop_at p (joined packs) 256 full.0) (joined_back n packs full.1)))
+    rw further (rw (← drop-drop (n * 256) 256 (p ++ joined packs)) (rw (drop_at p (joined packs) 256 (full_first p packs full)) (joined_back n packs (full_others p packs full))))
 
 pub next_pack : (packs : List (List Entry)) (i : ℕ) (pack : List Entry) → i < length packs → pack ≡ get_or packs i pack → drop i packs ≡ pack ∷ drop (i + 1) packs
 next_pack packs i pack inside is = drop_more packs i pack inside ∙ ap (λ (p : List Entry). p ∷ drop (i + 1) packs) (sym is)
@@ -42,7 +51,7 @@ pack_unpacked packs i from pack before after whole inside is full small adds now
     let more : List Entry = joined (drop (i + 1) packs) in
     let next : drop i packs ≡ pack ∷ drop (i + 1) packs = next_pack packs i pack inside is in
     let here : AreFull (pack ∷ drop (i + 1) packs) = subst AreFull next (full_back i packs full) in
-    let long : length pack ≡ 256 = here.0 in
+    let long : length pack ≡ 256 = full_first pack (drop (i + 1) packs) here in
     let within : from ≤ length pack = omega (arith, long, small) in
     ap (λ (es : List Entry). es ++ more) adds
     ∙ append_assoc before (drop from pack) more

@@ -5,5 +5,5 @@ use Rattle.pl_log.proofs.pack.Pack.unpack.Given as goal
 
 abbrev pub invariant-loop-place : goal.invariant-loop-place
 invariant-loop-place l =
-    l.into ++ drop (l.from - l.place) (entries_in (drop l.place l.self.forms.items) l.rest.numbers l.rest.bytes l.rest.values l.rest.whole)
-    ≡ l.initial.into ++ drop l.from (entries_in l.self.forms.items l.numbers.items l.self.bytes.items l.self.values.items l.self.whole.items)
+    l.into ++ drop (l.from - l.place) (entries_in (drop l.place l.form-items) l.rest.numbers.now l.rest.bytes.now l.rest.values.now l.rest.whole.now)
+    ≡ l.initial.into ++ drop l.from (entries_in l.form-items l.initial.rest.numbers.now l.initial.rest.bytes.now l.initial.rest.values.now l.initial.rest.whole.now)
