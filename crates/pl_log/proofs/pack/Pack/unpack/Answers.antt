@@ -1,6 +1,8 @@
-use Rattle.std.proofs.Common.{◌≡◌, ◌-◌, ◌++◌, ◌∙◌, ap, ℕ, List, drop, arith}
+use Rattle.std.proofs.Common.{◌≡◌, ◌+◌, ◌-◌, ◌++◌, ◌∙◌, refl, ap, ℕ, List, [], ◌∷◌, drop, get_or, arith}
 use Rattle.pl_entry.specs.declared.entry.Entry.{Entry}
-use Rattle.pl_log.specs.Unpacking.{entries_in}
+use Rattle.pl_log.specs.declared.form.Form.{Form}
+use Rattle.pl_log.specs.declared.form.Form.TheVariants.{Whole}
+use Rattle.pl_log.specs.Unpacking.{entry_in, entries_in}
 use Rattle.pl_log.proofs.Entries.{next_entry, entry_left_out, entry_added, all_entries_unpacked}
 use Rattle.pl_log.proofs.pack.Pack.unpack.Goals as goal
 use Rattle.pl_log.proofs.pack.Pack.unpack.Goals.{then-from-place+in_ok-entry+in_ok-push, else-from-place}
@@ -13,5 +15,34 @@ loop-place-init c =
 
 pub loop-place-preserved : goal.loop-place-preserved
 loop-place-preserved c =
-    let h = c.behind-rest.ensures.numbers in
-    ?
+    let fs = c.deref-form-items.result.now in
+    let i = c.loop-place.place in
+    let left = c.loop-place.rest in
+    let next = c.behind-rest.result in
+    let f : Form = get_or fs i Whole in
+    let e : Entry = entry_in f left.numbers.now left.bytes.now left.values.now left.whole.now in
+    let more : List Entry = entries_in (drop (i + 1) fs) next.numbers.now next.bytes.now next.values.now next.whole.now in
+    let is : entries_in (drop i fs) left.numbers.now left.bytes.now left.values.now left.whole.now ≡ e ∷ more =
+    next_entry fs i Whole f left.numbers.now left.bytes.now left.values.now left.whole.now next.numbers.now next.bytes.now next.values.now next.whole.now c.loop-place-test.true refl
+    (record { numbers = c.behind-rest.ensures.numbers; bytes = c.behind-rest.ensures.bytes; values = c.behind-rest.ensures.values; whole = c.behind-rest.ensures.whole }) in
+    elim c.if-from-place.branch [
+      | then-from-place+in_ok-entry+in_ok-push w ↦
+          let adds : c.if-from-place.into ≡ c.loop-place.into ++ e ∷ [] = w.into-is ∙ w.in_ok-push.ensures.ok ∙ ap (λ (x : Entry). c.loop-place.into ++ x ∷ []) w.in_ok-entry.ensures in
+          entry_added c.args.from i e _ more c.loop-place.into c.if-from-place.into _ w.if-from-place.true is adds c.loop-place.invariant
+      | else-from-place w ↦
+          ap (λ (es : List Entry). es ++ drop (c.args.from - (i + 1)) more) w.into-is ∙ entry_left_out c.args.from i e _ more c.loop-place.into _ w.if-from-place.false is c.loop-place.invariant
+    ]
+
+pub returns : goal.returns
+returns c =
+    let fs = c.deref-form-items.result.now in
+    let i = c.loop-place.place in
+    let left = c.loop-place.rest in
+    let forms : fs ≡ c.self.inside.forms.items = c.deref-form-items.ensures.value in
+    let numbers : c.deref.result.now ≡ c.self.inside.numbers = c.deref.ensures.value ∙ c.in_ok-numbers.ensures in
+    let bytes : c.deref-2.result.now ≡ c.self.inside.bytes.items = c.deref-2.ensures.value in
+    let values : c.deref-3.result.now ≡ c.self.inside.values.items = c.deref-3.ensures.value in
+    let whole : c.deref-4.result.now ≡ c.self.inside.whole.items = c.deref-4.ensures.value in
+    let same : entries_in fs c.deref.result.now c.deref-2.result.now c.deref-3.result.now c.deref-4.result.now ≡ c.args.self.now = rw (forms, numbers, bytes, values, whole) c.self.view_is in
+    all_entries_unpacked fs i (c.args.from - i) left.numbers.now left.bytes.now left.values.now left.whole.now c.loop-place.into _ c.loop-place-test.false c.loop-place.invariant
+    ∙ ap (λ (es : List Entry). c.args.into.now ++ drop c.args.from es) same
