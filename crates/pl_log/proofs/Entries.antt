@@ -1,8 +1,8 @@
 -- An entry that was packed is unpacked again.
-use Rattle.std.proofs.Common.{◌≡◌, ◌+◌, ◌-◌, ◌<◌, ◌≤◌, ◌++◌, ◌∙◌, refl, ap, sym, ℕ, ℤ, suc, List, [], ◌∷◌, length, get_or, take, drop, Option, Some, None, ltb, true, false, arith, append_assoc, append-nil, take_at, drop_at}
+use Rattle.std.proofs.Common.{◌≡◌, ◌+◌, ◌-◌, ◌<◌, ◌≤◌, ◌++◌, ◌∙◌, refl, ap, sym, ℕ, ℤ, suc, List, [], ◌∷◌, length, get_or, take, drop, Option, Some, None, ltb, true, false, arith, append_assoc, take_at, drop_at}
 use Rattle.std.specs.List.{flat_map}
 use Rattle.std.proofs.lemmas.Bool.{cond_both}
-use Rattle.std.proofs.lemmas.List.{drop_more, drop_all, at_drop_all}
+use Rattle.std.proofs.lemmas.List.{drop_more}
 use Rattle.pl_conflict.specs.declared.conflict.Conflict.{Conflict}
 use Rattle.pl_plan.specs.declared.repair.RepairMove.{RepairMove}
 use Rattle.pl_plan.specs.declared.repair.RepairMove.TheVariants as repair
@@ -173,14 +173,4 @@ entry_added from place e es more before after whole inside is adds now =
     ∙ append_assoc before (e ∷ []) more
     ∙ ap (λ (n : ℕ). before ++ drop n (e ∷ more)) (sym here)
     ∙ ap (λ (xs : List Entry). before ++ drop (from - place) xs) (sym is)
-    ∙ now
-
-pub all_entries_unpacked : (fs : List Form) (i n : ℕ) (ns bs : List ℕ) (vs : List (Option ℤ)) (ws stands whole : List Entry) → length fs ≤ i → stands ++ drop n (entries_in (drop i fs) ns bs vs ws) ≡ whole
-    → stands ≡ whole
-all_entries_unpacked fs i n ns bs vs ws stands whole past now =
-    let none : List Entry = [] in
-    let nothing : drop n none ≡ none = drop_all n none (omega arith) in
-    sym (append-nil stands)
-    ∙ ap (λ (es : List Entry). stands ++ es) (sym nothing)
-    ∙ sym (at_drop_all (λ (gs : List Form). stands ++ drop n (entries_in gs ns bs vs ws)) fs i past)
     ∙ now

@@ -3,7 +3,7 @@ use Rattle.pl_entry.specs.declared.entry.Entry.{Entry}
 use Rattle.pl_log.specs.declared.form.Form.{Form}
 use Rattle.pl_log.specs.declared.form.Form.TheVariants.{Whole}
 use Rattle.pl_log.specs.Unpacking.{entry_in, entries_in}
-use Rattle.pl_log.proofs.Entries.{next_entry, entry_left_out, entry_added, all_entries_unpacked}
+use Rattle.pl_log.proofs.Entries.{next_entry, entry_left_out, entry_added}
 use Rattle.pl_log.proofs.pack.Pack.unpack.Goals as goal
 use Rattle.pl_log.proofs.pack.Pack.unpack.Goals.{then-from-place+in_ok-entry+in_ok-push, else-from-place}
 
@@ -32,17 +32,3 @@ loop-place-preserved c =
       | else-from-place w ↦
           ap (λ (es : List Entry). es ++ drop (c.args.from - (i + 1)) more) w.into-is ∙ entry_left_out c.args.from i e _ more c.loop-place.into _ w.if-from-place.false is c.loop-place.invariant
     ]
-
-pub returns : goal.returns
-returns c =
-    let fs = c.deref-form-items.result.now in
-    let i = c.loop-place.place in
-    let left = c.loop-place.rest in
-    let forms : fs ≡ c.self.inside.forms.items = c.deref-form-items.ensures.value in
-    let numbers : c.deref.result.now ≡ c.self.inside.numbers = c.deref.ensures.value ∙ c.in_ok-numbers.ensures in
-    let bytes : c.deref-2.result.now ≡ c.self.inside.bytes.items = c.deref-2.ensures.value in
-    let values : c.deref-3.result.now ≡ c.self.inside.values.items = c.deref-3.ensures.value in
-    let whole : c.deref-4.result.now ≡ c.self.inside.whole.items = c.deref-4.ensures.value in
-    let same : entries_in fs c.deref.result.now c.deref-2.result.now c.deref-3.result.now c.deref-4.result.now ≡ c.args.self.now = rw (forms, numbers, bytes, values, whole) c.self.view_is in
-    all_entries_unpacked fs i (c.args.from - i) left.numbers.now left.bytes.now left.values.now left.whole.now c.loop-place.into _ c.loop-place-test.false c.loop-place.invariant
-    ∙ ap (λ (es : List Entry). c.args.into.now ++ drop c.args.from es) same
