@@ -1,5 +1,5 @@
 -- Numbers that were packed are unpacked again.
-use Rattle.std.proofs.Common.{◌≡◌, ◌+◌, ◌-◌, ◌*◌, ◌/◌, ◌%◌, ◌<◌, ◌≤◌, ◌++◌, ◌∙◌, refl, ap, sym, ℕ, suc, List, [], ◌∷◌, length, drop, ltb, true, false, arith, append_assoc, append-nil}
+use Rattle.std.proofs.Common.{◌≡◌, ◌+◌, ◌-◌, ◌/◌, ◌<◌, ◌≤◌, ◌++◌, ◌∙◌, refl, ap, sym, ℕ, suc, List, [], ◌∷◌, length, drop, ltb, arith, append_assoc, append-nil}
 use Rattle.std.proofs.lemmas.Bool.{cond_both}
 use Rattle.std.proofs.lemmas.Nat.{div-add-mod'}
 use Rattle.pl_log.specs.Numbers.{packed, all_packed, unpacked, width, all_unpacked}

@@ -1,5 +1,5 @@
 -- An entry that was packed is unpacked again.
-use Rattle.std.proofs.Common.{◌≡◌, ◌+◌, ◌-◌, ◌<◌, ◌≤◌, ◌++◌, ◌∙◌, refl, ap, sym, ℕ, ℤ, suc, List, [], ◌∷◌, length, get_or, take, drop, Option, Some, None, ltb, true, false, arith, append_assoc, take_at, drop_at}
+use Rattle.std.proofs.Common.{◌≡◌, ◌+◌, ◌-◌, ◌<◌, ◌≤◌, ◌++◌, ◌∙◌, refl, ap, sym, ℕ, ℤ, suc, List, [], ◌∷◌, length, get_or, drop, Option, Some, None, ltb, arith, append_assoc, take_at, drop_at}
 use Rattle.std.specs.List.{flat_map}
 use Rattle.std.proofs.lemmas.Bool.{cond_both}
 use Rattle.std.proofs.lemmas.List.{drop_more}

@@ -1,4 +1,4 @@
-use Rattle.std.proofs.Common.{◌≡◌, ◌+◌, ◌*◌, ◌++◌, ◌∙◌, ap, length, arith, length-append}
+use Rattle.std.proofs.Common.{◌≡◌, ◌+◌, ◌*◌, ◌++◌, ap, length, arith, length-append}
 use Rattle.pl_log.specs.Logged.{Logged, joined}
 use Rattle.pl_log.proofs.Packs.{length_joined}
 use Rattle.pl_log.proofs.log.Log.len.Goals as goal

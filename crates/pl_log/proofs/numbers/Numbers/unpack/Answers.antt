@@ -1,4 +1,4 @@
-use Rattle.std.proofs.Common.{◌≡◌, ◌-◌, ◌++◌, ◌∙◌, ap, ℕ, List, [], arith}
+use Rattle.std.proofs.Common.{◌≡◌, ◌-◌, ◌++◌, ◌∙◌, ap, ℕ, List, arith}
 use Rattle.pl_log.specs.Numbers.{all_unpacked}
 use Rattle.pl_log.proofs.Bytes.{one_unpacked, all_stand}
 use Rattle.pl_log.proofs.numbers.Numbers.unpack.Goals as goal

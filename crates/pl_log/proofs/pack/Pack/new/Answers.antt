@@ -1,5 +1,4 @@
 use Rattle.std.proofs.Common.{◌≡◌, ◌∙◌}
-use Rattle.pl_log.specs.Unpacking.{entries_in}
 use Rattle.pl_log.proofs.Entries.{have_more, have_all}
 use Rattle.pl_log.proofs.pack.Pack.new.Goals as goal
 
