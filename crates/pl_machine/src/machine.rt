@@ -27,6 +27,7 @@ use crate::schedule::Schedule;
 use pl_board::Board;
 use pl_entry::{Entry, Event, Reply};
 use pl_facts::Options;
+use pl_log::Log;
 use pl_model::Model;
 use pl_semantics::SharedModel;
 use std::alloc::{AllocError, Global};
@@ -45,7 +46,7 @@ pub struct Machine {
     sent: usize,
     round: Round,
     done: bool,
-    log: Vec<Entry>,
+    log: Log,
 }
 
 impl std::marker::Model for Machine {
@@ -58,9 +59,9 @@ impl std::marker::Model for Machine {
 
     ghost coded = { Prim.hlevel (codes, e.the_row.coded) };
 
-    ghost view = { λ m. record { spoiled = m.board.spoiled; model = m.model; log = m.log.items; world = record { state = m.board.state; options = m.options; dispatched = take m.sent m.schedule.due.items; turn = m.round.turn; rested = m.round.rested; held = m.round.held; closed = m.round.closed; done = m.done; halted = m.round.halted } } };
+    ghost view = { λ m. record { spoiled = m.board.spoiled; model = m.model; log = m.log.entries; world = record { state = m.board.state; options = m.options; dispatched = take m.sent m.schedule.due.items; turn = m.round.turn; rested = m.round.rested; held = m.round.held; closed = m.round.closed; done = m.done; halted = m.round.halted } } };
 
-    ghost invariant = { λ m. IsSound m.board.spoiled m.model m.log.items (record { state = m.board.state; options = m.options; dispatched = take m.sent m.schedule.due.items; turn = m.round.turn; rested = m.round.rested; held = m.round.held; closed = m.round.closed; done = m.done; halted = m.round.halted }) m.schedule.due.items m.sent m.schedule.ahead m.schedule.ranges.items };
+    ghost invariant = { λ m. IsSound m.board.spoiled m.model m.log.entries (record { state = m.board.state; options = m.options; dispatched = take m.sent m.schedule.due.items; turn = m.round.turn; rested = m.round.rested; held = m.round.held; closed = m.round.closed; done = m.done; halted = m.round.halted }) m.schedule.due.items m.sent m.schedule.ahead m.schedule.ranges.items };
 }
 
 impl Machine {
@@ -73,11 +74,12 @@ impl Machine {
         let owner = model.clone()?;
         let shared = SharedModel::new(owner);
         let board = Board::new(alloc, model, options.live)?;
-        let mut log = Vec::new(alloc);
+        let mut log = Log::new(alloc);
+        log.reserve()?;
         log.push(Entry {
             event: Event::Opened(options),
             reply: Reply::Done,
-        })?;
+        });
         Ok(Machine {
             alloc,
             model: shared,

@@ -27,5 +27,9 @@ pub fn write_log<O: Sink>(
         return Ok(());
     }
     let log = machine.log();
-    write_entries(alloc, machine.model(), from as u32, &log[from..], out)
+    if let Some(entries) = log.newest_from(from) {
+        return write_entries(alloc, machine.model(), from as u32, entries, out);
+    }
+    let entries = log.entries_from(alloc, from)?;
+    write_entries(alloc, machine.model(), from as u32, entries.as_slice(), out)
 }

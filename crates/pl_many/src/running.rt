@@ -59,7 +59,10 @@ pub fn run_crew<R: Threads + Wait + Sync, I: Source, O: Sink, G: Gate + Sync>(
         return Err(Halt::Memory);
     };
     match run_team(rt, alloc, machine, &duties, gate, lines, src, out) {
-        Ok(ended) => write_tallies(alloc, planners, &ended.marks, ended.machine.log(), out),
+        Ok(ended) => {
+            let entries = ended.machine.log().entries_from(alloc, 0)?;
+            write_tallies(alloc, planners, &ended.marks, entries.as_slice(), out)
+        }
         Err(halt) => Err(halt),
     }
 }

@@ -30,6 +30,7 @@ pub fn report(alloc: Global, machine: &Machine) -> Result<Vec<u8>, AllocError>
     push_goals(&mut text, state)?;
     push_activities(&mut text, state)?;
     push_conflicts(&mut text, conflicts.as_slice())?;
-    push_commands(&mut text, machine.model(), log)?;
+    let entries = log.entries_from(alloc, 0)?;
+    push_commands(&mut text, machine.model(), entries.as_slice())?;
     Ok(text)
 }

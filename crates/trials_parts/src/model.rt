@@ -5,6 +5,7 @@ mod commands;
 mod counts;
 mod facts;
 mod links;
+mod logs;
 mod messages;
 mod rewriting;
 mod texts;

@@ -1,4 +1,4 @@
-ghost use Rattle.std.specs.Prelude.{◌≡◌, ◌<◌, ◌≤◌, [], ◌∷◌, ◌++◌, false, true, vec_len, vec_capacity, IfOk, OnOk, OnErr};
+ghost use Rattle.std.specs.Prelude.{◌≡◌, ◌<◌, ◌≤◌, [], ◌∷◌, ◌++◌, false, true, IfOk, OnOk, OnErr};
 ghost use Rattle.pl_entry.specs.Bounds.{IsEventInRange, IsReplyTo};
 ghost use Rattle.pl_semantics.specs.Whole.{IsWhole};
 ghost use Rattle.pl_board.specs.Boards.{after as board_of};
@@ -18,38 +18,35 @@ use crate::stop::Stop;
 use pl_board::Board;
 use pl_entry::{Entry, Event, Reply};
 use pl_lists::Copied;
+use pl_log::Log;
 use pl_moves::make;
 use pl_points::{Quiet, Steps};
 use std::alloc::{AllocError, Global};
 
 /// Appends an entry to a log, and gives the reply back.
-fn log_entry(
-    log: &mut Vec<Entry>,
-    alloc: Global,
-    event: Event,
-    reply: Reply,
-) -> Result<Reply, AllocError>
-    ensures ok { OnOk result (log.new.items ≡ log.old.items ++ record { event = event; reply = reply } ∷ []) }
+fn log_entry(log: &mut Log, alloc: Global, event: Event, reply: Reply) -> Result<Reply, AllocError>
+    ensures ok { OnOk result (log.new.entries ≡ log.old.entries ++ record { event = event; reply = reply } ∷ []) }
     ensures same { IfOk result (λ r. r ≡ reply) }
-    ensures err { OnErr result (log.new.items ≡ log.old.items) }
+    ensures err { OnErr result (log.new.entries ≡ log.old.entries) }
 {
     let again = reply.copy(alloc)?;
-    log.push(Entry { event, reply })?;
+    log.reserve()?;
+    log.push(Entry { event, reply });
     Ok(again)
 }
 
 /// Appends an entry. Want of memory spoils the board.
 pub(crate) fn push_entry(
-    log: &mut Vec<Entry>,
+    log: &mut Log,
     board: &mut Board,
     alloc: Global,
     event: Event,
     reply: Reply,
 ) -> Result<Reply, AllocError>
-    ensures ok { OnOk result (log.new.items ≡ log.old.items ++ record { event = event; reply = reply } ∷ []) }
+    ensures ok { OnOk result (log.new.entries ≡ log.old.entries ++ record { event = event; reply = reply } ∷ []) }
     ensures same { IfOk result (λ r. r ≡ reply) }
     ensures stays { OnOk result (board.new ≡ board.old) }
-    ensures err { OnErr result (log.new.items ≡ log.old.items) }
+    ensures err { OnErr result (log.new.entries ≡ log.old.entries) }
     ensures spoils { OnErr result (board.new ≡ record board.old { spoiled = true }) }
 {
     match log_entry(log, alloc, event, reply) {
@@ -62,13 +59,13 @@ pub(crate) fn push_entry(
 }
 
 /// Reserves the place of one more entry. Want of memory spoils the board.
-pub(crate) fn reserve_entry(log: &mut Vec<Entry>, board: &mut Board) -> Result<(), AllocError>
-    ensures same { log.new.items ≡ log.old.items }
-    ensures place { OnOk result (vec_len log.new < vec_capacity log.new) }
+pub(crate) fn reserve_entry(log: &mut Log, board: &mut Board) -> Result<(), AllocError>
+    ensures same { log.new.entries ≡ log.old.entries }
+    ensures place { OnOk result (log.new.has_place ≡ true) }
     ensures stays { OnOk result (board.new ≡ board.old) }
     ensures spoils { OnErr result (board.new.spoiled ≡ true) }
 {
-    match log.reserve(1) {
+    match log.reserve() {
         Ok(()) => Ok(()),
         Err(fault) => {
             board.spoil();
@@ -78,12 +75,12 @@ pub(crate) fn reserve_entry(log: &mut Vec<Entry>, board: &mut Board) -> Result<(
 }
 
 /// Appends the entry of an event that was carried out, in the place that was reserved for it.
-pub(crate) fn push_done(log: &mut Vec<Entry>, event: Event)
-    requires { vec_len log.old < vec_capacity log.old }
-    ensures { log.new.items ≡ log.old.items ++ record { event = event; reply = Reply.Done } ∷ [] }
+pub(crate) fn push_done(log: &mut Log, event: Event)
+    requires { log.old.has_place ≡ true }
+    ensures { log.new.entries ≡ log.old.entries ++ record { event = event; reply = Reply.Done } ∷ [] }
 {
     let reply = Reply::Done;
-    log.push(Entry { event, reply }).unwrap();
+    log.push(Entry { event, reply });
 }
 
 /// Makes a change of a board.
@@ -152,7 +149,7 @@ fn change_due(
 
 /// Makes a change of a board, brings the schedule up to date, and appends the entry. Its place in the log is reserved first.
 fn push_change(
-    log: &mut Vec<Entry>,
+    log: &mut Log,
     board: &mut Board,
     schedule: &mut Schedule,
     alloc: Global,
@@ -164,12 +161,12 @@ fn push_change(
     requires can { CanChange board.old.state change }
     requires listed { schedule.old.due.items ≡ due_in board.old.state }
     requires ahead { IsAhead board.old.state schedule.old.ahead schedule.old.ranges.items }
-    ensures ok { OnOk result (log.new.items ≡ log.old.items ++ record { event = event; reply = Reply.Done } ∷ []) }
+    ensures ok { OnOk result (log.new.entries ≡ log.old.entries ++ record { event = event; reply = Reply.Done } ∷ []) }
     ensures changed { OnOk result (board.new ≡ board_of (changed change board.old.state)) }
     ensures keeps { OnOk result (KeepsStanding board.old.state board.new.state) }
     ensures due { OnOk result (schedule.new.due.items ≡ due_in board.new.state) }
     ensures ahead { OnOk result (IsAhead board.new.state schedule.new.ahead schedule.new.ranges.items) }
-    ensures err { OnErr result (log.new.items ≡ log.old.items) }
+    ensures err { OnErr result (log.new.entries ≡ log.old.entries) }
     ensures same { OnErr result (schedule.new.due.items ≡ schedule.old.due.items) }
     ensures spoils { OnErr result (board.new.spoiled ≡ true) }
 {

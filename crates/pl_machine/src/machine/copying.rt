@@ -4,28 +4,8 @@ use crate::found::Found;
 use crate::machine::Machine;
 use crate::schedule::Schedule;
 use pl_entry::Entry;
-use pl_lists::{Copied, Items};
+use pl_lists::Items;
 use std::alloc::{AllocError, Global};
-
-fn copy_of(alloc: Global, log: &[Entry]) -> Result<Items<Entry>, AllocError>
-    ensures { IfOk result (λ all. all ≡ log.now) }
-{
-    let mut all = Items::new(alloc);
-    for entry in log {
-        all.push(entry.copy(alloc)?)?;
-    }
-    Ok(all)
-}
-
-// The entries from a place on, and none where the log ends before it.
-fn copy_from(alloc: Global, log: &[Entry], from: usize) -> Result<Items<Entry>, AllocError>
-    ensures { IfOk result (λ all. all ≡ drop from log.now) }
-{
-    if log.len() <= from {
-        return Ok(Items::new(alloc));
-    }
-    copy_of(alloc, &log[from..])
-}
 
 impl Schedule {
     fn copy(&self, alloc: Global) -> Result<Schedule, AllocError>
@@ -47,7 +27,7 @@ impl Machine {
     pub fn entries_from(&self, alloc: Global, from: u32) -> Result<Items<Entry>, AllocError>
         ensures { IfOk result (λ entries. entries ≡ drop from self.now.log) }
     {
-        copy_from(alloc, &self.log, from as usize)
+        self.log.entries_from(alloc, from as usize)
     }
 
     /// A machine in the same world and with the same log, with memory of its own.
@@ -64,7 +44,7 @@ impl Machine {
             sent: self.sent,
             round: self.round,
             done: self.done,
-            log: copy_of(alloc, &self.log)?.into_vec(),
+            log: self.log.copy(alloc)?,
         })
     }
 }

@@ -1,4 +1,4 @@
-ghost use Rattle.std.specs.Prelude.{◌≡◌, ◌<◌, ◌≤◌, length, vec_len, vec_capacity, false, true, None, Some, IfOk, IfErr, IfSome, OnOk, OnErr, ◌⊎◌};
+ghost use Rattle.std.specs.Prelude.{◌≡◌, ◌<◌, ◌≤◌, length, false, true, None, Some, IfOk, IfErr, IfSome, OnOk, OnErr, ◌⊎◌};
 ghost use Rattle.pl_entry.specs.Bounds.{IsConflictInRange};
 ghost use Rattle.pl_semantics.specs.Legal.{is_stuck};
 ghost use Rattle.pl_moves.specs.Keeping.{KeepsCommitted};
@@ -16,13 +16,14 @@ use crate::starting::ahead_after;
 use crate::stop::Stop;
 use pl_board::Board;
 use pl_cand::{Chooser, Proposal};
-use pl_entry::{Entry, Event};
+use pl_entry::Event;
+use pl_log::Log;
 use std::alloc::{AllocError, Global};
 
 /// Appends the entry of a repair that was made, in the place that was reserved for it.
-fn push_made(log: &mut Vec<Entry>, proposal: &Proposal)
-    requires { vec_len log.old < vec_capacity log.old }
-    ensures logged { log.new.items ≡ logged (Some proposal.now) log.old.items }
+fn push_made(log: &mut Log, proposal: &Proposal)
+    requires { log.old.has_place ≡ true }
+    ensures logged { log.new.entries ≡ logged (Some proposal.now) log.old.entries }
     ensures conflict { IsConflictInRange proposal.now.conflict }
     ensures repair { FitsTypes proposal.now.mv }
 {
@@ -33,7 +34,7 @@ fn push_made(log: &mut Vec<Entry>, proposal: &Proposal)
 
 /// Lets a chooser make the next repair of a board, and appends its entry. The place in the log is reserved first.
 fn push_repair<C: Chooser>(
-    log: &mut Vec<Entry>,
+    log: &mut Log,
     board: &mut Board,
     ahead: &mut Ahead,
     alloc: Global,
@@ -46,9 +47,9 @@ fn push_repair<C: Chooser>(
     ensures legal { IfOk result (IsProposal board.old.state) }
     ensures ranges { IfOk result (λ p. IfSome p (λ q. IsConflictInRange q.conflict × FitsTypes q.mv)) }
     ensures made { IfOk result (λ p. board.new ≡ mended p board.old) }
-    ensures logged { IfOk result (λ p. log.new.items ≡ logged p log.old.items) }
+    ensures logged { IfOk result (λ p. log.new.entries ≡ logged p log.old.entries) }
     ensures ahead { IfOk result (λ p. ahead.new ≡ ahead_behind p ahead.old) }
-    ensures err { OnErr result (log.new.items ≡ log.old.items) }
+    ensures err { OnErr result (log.new.entries ≡ log.old.entries) }
     ensures spoils { OnErr result (board.new.spoiled ≡ true) }
     ensures drawn { (chooser.new ≡ chooser.old) ⊎ ((is_stuck board.old.state ≡ false) × C.drawn chooser.old chooser.new) }
 {

@@ -6,20 +6,20 @@ ghost use Rattle.pl_machine.specs.Taking.{Admits};
 use crate::machine::Machine;
 use crate::stop::Stop;
 use pl_board::Board;
-use pl_entry::Entry;
 use pl_facts::Options;
+use pl_log::Log;
 use pl_model::Model;
 
 impl Machine {
     /// The log, which is legal. The world of an unspoiled machine is the world after this log. Of a spoiled machine this holds of
     /// all but the plan state.
-    pub fn log(&self) -> &[Entry]
-        ensures entries { result.now ≡ self.now.log }
+    pub fn log(&self) -> &Log
+        ensures entries { result.now.entries ≡ self.now.log }
         ensures legal { Legal self.now.model self.now.log }
         ensures others { self.now.world ≡ record (world_of self.now.model self.now.log) { state = self.now.world.state } }
         ensures history { self.now.spoiled ≡ false → IsHistory self.now.model self.now.log self.now.world }
     {
-        self.log.as_slice()
+        &self.log
     }
 
     /// How many entries the log has.

@@ -83,7 +83,8 @@ fn assert_log(rt: &impl Abort, alloc: Global, machine: &Machine) {
     holds(rt, "five entries", machine.log().len() == 5);
     let model = model(rt, alloc, MODEL);
     let mut number = 0u32;
-    for (entry, (front, end)) in machine.log().iter().skip(1).zip(&LINES) {
+    let entries = machine.entries_from(alloc, 1).expect(rt, "memory");
+    for (entry, (front, end)) in entries.as_slice().iter().zip(&LINES) {
         number = number.wrapping_add(1);
         let line = render(alloc, &model, number, entry).expect(rt, "memory");
         let text = std::str::from_utf8(&line).unwrap_or("").trim_end();

@@ -108,7 +108,8 @@ fn sent_at(alloc: Global, log: &[Entry]) -> Result<Vec<usize>, AllocError> {
 }
 
 fn logged(alloc: Global, machine: &Machine) -> Result<String, AllocError> {
-    let sent = sent_at(alloc, machine.log())?;
+    let entries = machine.log().entries_from(alloc, 0)?;
+    let sent = sent_at(alloc, entries.as_slice())?;
     let count = machine.log().len();
     format!(in alloc;
         "{count}, sent at {sent:?}, closed {}, done {}",

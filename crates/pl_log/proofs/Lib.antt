@@ -1,0 +1,4 @@
+pub mod Adding
+pub mod Bytes
+pub mod Entries
+pub mod Packs

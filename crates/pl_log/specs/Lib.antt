@@ -1,0 +1,4 @@
+pub mod Numbers
+pub mod Packing
+pub mod Unpacking
+pub mod Logged
