@@ -57,7 +57,7 @@ impl<S: Copied, T: Copied> Copied for (S, T) {
 
 impl<T: Copied> Copied for Items<T> {
     fn copy(&self, alloc: Global) -> Result<Self, AllocError> {
-        let mut all = Items::new(alloc);
+        let mut all = Items::from_vec(Vec::with_capacity(alloc, self.len())?);
         for item in self.as_slice() {
             all.push(item.copy(alloc)?)?;
         }

@@ -77,7 +77,7 @@ fn places_of(
 ) -> Result<Items<Option<i64>>, ParseFault>
     ensures { Gives result (places_in line.now presets.now params.now) }
 {
-    let mut places = Items::new(alloc);
+    let mut places = Items::from_vec(Vec::with_capacity(alloc, params.len())?);
     for param in params {
         places.push(place_of(param, given(line, presets, param))?)?;
     }
