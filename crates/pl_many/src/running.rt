@@ -33,7 +33,7 @@ fn duties(alloc: Global, planners: u8, seed: u64, begun: u32) -> Result<Vec<Duty
 
 /// Runs an executive and planners in threads of their own, feeds them the messages that a reader has left, and writes the lines of the
 /// whole log, and behind them a line for each planner. It waits for its threads.
-#[tactic(auto, using(pl_machine::proofs::ShortLogs::log_is_short, crate::proofs::Crewing::few_marks, crate::proofs::Crewing::crew_untold, crate::proofs::Crewing::crew_halts))]
+#[tactic(auto, using(pl_machine::proofs::ShortLogs::log_is_short, crate::proofs::Crewing::few_marks, crate::proofs::Crewing::crew_halts))]
 pub fn run_crew<R: Threads + Wait + Sync, I: Source, O: Sink, G: Gate + Sync>(
     rt: &R,
     alloc: Global,
