@@ -50,8 +50,8 @@ returns-in-Ok-run_team-clause-run g c =
     let behind = place_of c.run_team.new.lines (g.I.Source.left c.run_team.new.src) in
     let hired : c.deref.result.now ≡ crew_of c.args.planners c.args.seed (length c.args.machine.log) =
     c.deref.ensures.value ∙ c.in-Ok.ensures ∙ ap (λ (n : ℕ). crew_of c.args.planners c.args.seed n) (c.len.ensures ∙ ap length c.log-log.ensures.entries) in
-    crew_ran c.args.planners c.args.seed c.args.machine place (g.O.Sink.held c.args.out.now) behind c.deref.result.now c.in-Ok-run_team.ended c.deref-in_ok-entries-in-Ok-run_team.result.now c.as_slice.result.now c.write_tallies.result _ _ _ _ hired
-    c.in-Ok-run_team.ensures.run c.deref-in_ok-entries-in-Ok-run_team.ensures.value (c.as_slice.ensures ∙ c.in_ok-entries-in-Ok-run_team.ensures ∙ c.log.ensures.entries) c.write_tallies.ensures.text c.write_tallies.ensures.front c.write_tallies.ensures.cause
+    crew_ran c.args.planners c.args.seed c.args.machine place (g.O.Sink.held c.args.out.now) behind c.deref.result.now c.in-Ok-run_team.ended c.deref-in-Ok-run_team.result.now c.as_slice.result.now c.write_tallies.result _ _ _ _ hired
+    c.in-Ok-run_team.ensures.run c.deref-in-Ok-run_team.ensures.value (c.as_slice.ensures ∙ c.in_ok-entries-in-Ok-run_team.ensures ∙ c.log.ensures.entries) c.write_tallies.ensures.text c.write_tallies.ensures.front c.write_tallies.ensures.cause
 
 pub returns-in-Ok-run_team-clause-write : goal.returns-in-Ok-run_team-clause-write
 returns-in-Ok-run_team-clause-write g c = lines_torn c.write_tallies.result _ _ _ c.in-Ok-run_team.ensures.later c.write_tallies.ensures.cause
