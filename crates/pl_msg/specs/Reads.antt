@@ -12,10 +12,11 @@ abbrev pub is_memory : ParseFault → Bool
 is_memory fault.Memory = true
 is_memory e = false
 
--- A call gave what is meant, or ran out of memory.
+-- An error is the fault that is meant, or want of memory.
 abbrev pub Fails : {X : Type 0} → ParseFault → Read X → Type 0
 Fails e meant = judged.Fails is_memory e meant
 
+-- A call gave what is meant, or ran out of memory.
 abbrev pub Gives : {X : Type 0} → Read X → Read X → Type 0
 Gives result meant = judged.Gives is_memory result meant
 

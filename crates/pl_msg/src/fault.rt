@@ -7,10 +7,10 @@ pub enum ParseFault {
     /// None of the forms that such a line may have, or a preset's name stands twice.
     #[error("bad line")]
     BadLine,
-    /// A name that stands where the model has nothing of that name.
+    /// A name that names nothing of the sort that is asked for where it stands.
     #[error("unknown name")]
     UnknownName,
-    /// A number outside its limits.
+    /// A number outside its limits, or a name where the value of a level is told.
     #[error("out of range")]
     OutOfRange,
     #[error("out of memory")]

@@ -1,5 +1,5 @@
 //! Message lines: goals, telemetry, the moment, measured ends, the withdrawal of what is committed and has not begun,
-//! and the end. And what other lines about a model are read by: their words, their names, their faults.
+//! and the end. Lines of rates and of preferences are read by the same words, names and faults.
 #![tactic(auto)]
 
 mod fault;

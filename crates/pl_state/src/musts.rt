@@ -172,7 +172,7 @@ impl Musts {
         Ok(keys)
     }
 
-    /// Those that need their states at the moment.
+    /// The musts that need their states at the moment.
     pub(crate) fn at(&self, alloc: Global, t: u32) -> Result<Vec<Must>, AllocError>
         ensures { IfOk result (λ v. (m : Must) → Has m v.items ↔ (Has m self.now × (holds_at t m ≡ true))) }
     {

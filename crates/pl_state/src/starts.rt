@@ -81,7 +81,7 @@ fn holds_at(t: u32, must: Must) -> bool
     must.from <= t && t < must.to
 }
 
-// Those that need their states at the moment.
+// The musts among these that need their states at the moment.
 fn holding_at(alloc: Global, t: u32, starts: &[Started]) -> Result<Vec<Must>, AllocError>
     ensures { IfOk result (λ v. v.items ≡ holding_at t starts.now) }
 {
