@@ -48,7 +48,7 @@ fn put_two(
     Ok(())
 }
 
-// The points in two blocks, where they are too many for one.
+// The points in two blocks, where they are too many for one. The first keeps no more memory than it takes: most points come behind it.
 fn split<L: Ledger>(
     alloc: Global,
     blocks: &mut Vec<Block>,
@@ -65,6 +65,7 @@ fn split<L: Ledger>(
 {
     let behind = Vec::from_slice(alloc, &points[FEW..])?;
     points.truncate(FEW);
+    points.shrink_to_fit();
     let first = Block::new(points, steps);
     let second = Block::new(behind, steps);
     put_two(blocks, place, first, second)

@@ -1,7 +1,7 @@
-ghost use Rattle.std.specs.Prelude.{◌≡◌, ◌+◌, ◌*◌, ◌++◌, slice_index, IfOk, OnOk};
-ghost use Rattle.pl_log.specs.Numbers.{packed, unpacked, width};
+ghost use Rattle.std.specs.Prelude.{◌≡◌, ◌+◌, ◌*◌, ◌<◌, ◌++◌, slice_index, IfOk, IfSome, OnOk};
+ghost use Rattle.pl_log.specs.Numbers.{earlier, packed, unpacked, width};
 
-use crate::reading::after;
+use crate::reading::{after, first_of, number_at};
 use std::alloc::{AllocError, Global};
 use std::marker::Model;
 
@@ -13,19 +13,43 @@ pub(crate) struct Numbers {
 }
 
 impl Model for Numbers {
-    ghost use Rattle.std.specs.Prelude.{ℕ, List};
+    ghost use Rattle.std.specs.Prelude.{ℕ, List, []};
     ghost use Rattle.pl_log.specs.Numbers.{all_unpacked};
 
     ghost Value = { List ℕ };
 
-    ghost view = { λ n. all_unpacked n.count n.bytes.items };
+    ghost view = { λ n. all_unpacked n.count [] n.bytes.items };
 }
 
-/// Appends the bytes of a number.
-fn push_packed(bytes: &mut Vec<u8>, number: u32) -> Result<(), AllocError>
-    ensures { OnOk result (bytes.new.items ≡ bytes.old.items ++ packed number) }
+// The number that stands so many places before the last one. Where there are fewer it is the first, or 0 if there is none.
+fn earlier(numbers: &[u32], back: u8) -> u32
+    ensures { result ≡ earlier numbers.now back }
 {
-    if number < 254 {
+    let last = usize::from(back) + 1;
+    number_at(numbers, numbers.len().saturating_sub(last))
+}
+
+// How far before the last one this number stands, if it stands near. A small number is not looked for.
+fn again(numbers: &[u32], number: u32) -> Option<u8>
+    ensures near { IfSome result (λ back. back < 16) }
+    ensures same { IfSome result (λ back. earlier numbers.now back ≡ number) }
+{
+    if number < 238 {
+        return None;
+    }
+    for back in 0..16 {
+        if earlier(numbers, back) == number {
+            return Some(back);
+        }
+    }
+    None
+}
+
+// Appends the bytes of a number that is not told by an earlier one.
+fn push_new(bytes: &mut Vec<u8>, number: u32) -> Result<(), AllocError>
+    ensures { OnOk result (bytes.new.items ≡ bytes.old.items ++ packed None number) }
+{
+    if number < 238 {
         bytes.extend_from_slice(&[number as u8])?;
         return Ok(());
     }
@@ -41,6 +65,20 @@ fn push_packed(bytes: &mut Vec<u8>, number: u32) -> Result<(), AllocError>
         (number % 256) as u8,
     ])?;
     Ok(())
+}
+
+// Appends the bytes of a number.
+fn push_packed(bytes: &mut Vec<u8>, again: Option<u8>, number: u32) -> Result<(), AllocError>
+    requires { IfSome again (λ back. back < 16) }
+    ensures { OnOk result (bytes.new.items ≡ bytes.old.items ++ packed again number) }
+{
+    match again {
+        Some(back) => {
+            bytes.push(238 + back)?;
+            Ok(())
+        }
+        None => push_new(bytes, number),
+    }
 }
 
 // The byte at a place, or 0 if there is none.
@@ -65,13 +103,15 @@ fn from_four(first: u8, second: u8, third: u8, last: u8) -> u32
         + u32::from(last)
 }
 
-/// The number that the bytes begin with.
-fn unpacked(bytes: &[u8]) -> u32
-    ensures { result ≡ unpacked bytes.now }
+/// The number that the bytes begin with, behind these numbers.
+fn unpacked(numbers: &[u32], bytes: &[u8]) -> u32
+    ensures { result ≡ unpacked numbers.now bytes.now }
 {
     let first = byte_at(bytes, 0);
-    if first < 254 {
+    if first < 238 {
         u32::from(first)
+    } else if first < 254 {
+        earlier(numbers, first - 238)
     } else if first < 255 {
         from_two(byte_at(bytes, 1), byte_at(bytes, 2))
     } else {
@@ -104,8 +144,9 @@ impl Numbers {
         ensures { IfOk result (λ n. n ≡ numbers.now) }
     {
         let mut bytes = Vec::new(alloc);
-        for number in numbers {
-            push_packed(&mut bytes, *number)?;
+        for (place, number) in numbers.iter().enumerate() {
+            let again = again(first_of(numbers, place), *number);
+            push_packed(&mut bytes, again, *number)?;
         }
         Ok(Numbers {
             count: numbers.len(),
@@ -120,7 +161,7 @@ impl Numbers {
         let mut numbers = Vec::with_capacity(alloc, self.count)?;
         let mut rest = self.bytes.as_slice();
         for _number in 0..self.count {
-            numbers.push(unpacked(rest))?;
+            numbers.push(unpacked(&numbers, rest))?;
             rest = after(rest, width(rest));
         }
         Ok(numbers)

@@ -68,10 +68,12 @@ impl<T: Keyed> Row<T> {
         self.items.remove(at);
     }
 
+    /// Keeps the first so many items, and no more memory than they take.
     pub(crate) fn truncate(&mut self, count: usize)
         ensures { self.new ≡ take count self.old }
     {
         self.items.truncate(count);
+        self.items.shrink_to_fit();
     }
 
     /// Whether the last item lies within the bound.

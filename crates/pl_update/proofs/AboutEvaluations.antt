@@ -1,6 +1,6 @@
 pub mod Keeping
 pub mod Reading
-pub mod Copying
+pub mod Places
 pub mod Still
 pub mod Moving
 pub mod Alike

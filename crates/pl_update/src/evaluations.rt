@@ -3,6 +3,7 @@
 mod evaluations;
 mod mending;
 mod replacement;
+mod searching;
 mod sharing;
 mod shifting;
 

@@ -1,10 +1,8 @@
 -- What is kept of activities by their ids, and when that is what they come to.
-use Rattle.std.specs.Prelude.{◌≡◌, ℕ, List, Option}
+use Rattle.std.specs.Prelude.{◌≡◌, ◌==◌, ℕ, List, Option}
 use Rattle.std.specs.Option.{option_map}
-use Rattle.std.specs.Ordering.{is_eq, nat_cmp}
-use Rattle.std.specs.declared.cmp.Ordering.{Ordering}
 use Rattle.std.specs.Map.{lookup}
-use Rattle.std.specs.declared.cmp.Reverse.{Reverse}
+use Rattle.pl_lists.specs.Lists as lists
 use Rattle.pl_model.specs.declared.whole.Model.{Model}
 use Rattle.pl_plan.specs.declared.activity.Activity.{Activity}
 use Rattle.pl_plan.specs.declared.evaluated.Evaluated.{Evaluated}
@@ -15,17 +13,21 @@ use Rattle.pl_semantics.specs.declared.plan_state.PlanState.{PlanState}
 use Rattle.pl_semantics.specs.Whole.{IsWhole}
 use Rattle.pl_update.specs.Changes.Replaced.{CanReplace, with_plan}
 
--- entries, each an id with what is kept under it; the ids are keys in reverse order
+-- entries, each an id with what is kept under it
 abbrev pub Entries : Type 0
-Entries = List (Reverse ℕ × Evaluated)
+Entries = List (ℕ × Evaluated)
 
--- the order of ids from the greatest down
-abbrev pub down : Reverse ℕ → Reverse ℕ → Ordering
-down one other = nat_cmp other.0 one.0
+-- ids rise, from this one on
+abbrev pub RiseFrom : ℕ → Entries → Type 0
+RiseFrom from entries = lists.RiseFrom (λ (entry : ℕ × Evaluated). entry.0) from entries
+
+-- ids rise, so no id stands twice
+abbrev pub AreRising : Entries → Type 0
+AreRising entries = RiseFrom 0 entries
 
 -- what is kept under an id
 abbrev pub kept_at : ℕ → Entries → Option Evaluated
-kept_at id kept = lookup (λ (other : Reverse ℕ). is_eq (nat_cmp other.0 id)) kept
+kept_at id entries = lookup (λ other. other == id) entries
 
 -- the values of an activity's parameters, the amounts of its reservations, and its end
 abbrev pub comes_to : Model → List Activity → Activity → Evaluated

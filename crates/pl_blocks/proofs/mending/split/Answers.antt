@@ -9,12 +9,12 @@ use Rattle.pl_blocks.proofs.mending.split.Goals as goal
 pub new-first-requires-clause-rising : goal.new-first-requires-clause-rising
 new-first-requires-clause-rising g c =
     let ps = c.args.points.items in
-    subst (RiseFrom 0) (sym c.truncate.ensures.items) (two_parts c.args.blocks.now.items c.args.place ps (take 32 ps) (drop 32 ps) c.requires.fit (sym (take_drop 32 ps))).0.0
+    subst (RiseFrom 0) (sym (c.shrink_to_fit.ensures.items ∙ c.truncate.ensures.items)) (two_parts c.args.blocks.now.items c.args.place ps (take 32 ps) (drop 32 ps) c.requires.fit (sym (take_drop 32 ps))).0.0
 
 pub new-first-requires-clause-near : goal.new-first-requires-clause-near
 new-first-requires-clause-near g c =
     let ps = c.args.points.items in
-    subst (AreNear (pos 0)) (sym c.truncate.ensures.items) (two_parts c.args.blocks.now.items c.args.place ps (take 32 ps) (drop 32 ps) c.requires.fit (sym (take_drop 32 ps))).0.1
+    subst (AreNear (pos 0)) (sym (c.shrink_to_fit.ensures.items ∙ c.truncate.ensures.items)) (two_parts c.args.blocks.now.items c.args.place ps (take 32 ps) (drop 32 ps) c.requires.fit (sym (take_drop 32 ps))).0.1
 
 pub new-second-requires-clause-rising : goal.new-second-requires-clause-rising
 new-second-requires-clause-rising g c =
@@ -34,7 +34,7 @@ returns-clause-ok g c =
     let place = c.args.place in
     let ps = c.args.points.items in
     let second : c.in_ok-behind.behind.items ≡ drop 32 ps = c.in_ok-behind.ensures.items ∙ take_rest c.deref.result.now 32 ∙ ap (drop 32) c.deref.ensures.value in
-    let one = c.new-first.ensures.points ∙ c.truncate.ensures.items in
+    let one = c.new-first.ensures.points ∙ c.shrink_to_fit.ensures.items ∙ c.truncate.ensures.items in
     let two = c.new-second.ensures.points ∙ second in
     let rest : length (drop 32 ps) ≡ length ps - 32 = length-drop 32 ps in
     let first : length (take 32 ps) ≡ 32 = omega (arith, ap length (take_drop 32 ps), length-append (take 32 ps) (drop 32 ps), rest, c.requires.many) in

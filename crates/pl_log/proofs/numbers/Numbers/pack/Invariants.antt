@@ -1,7 +1,7 @@
--- the bytes so far, and those to come
-use Rattle.std.proofs.Common.{◌≡◌, ◌++◌, drop}
-use Rattle.pl_log.specs.Numbers.{all_packed}
+-- the bytes tell the numbers so far
+use Rattle.std.proofs.Common.{take}
+use Rattle.pl_log.proofs.Bytes.{Tell}
 use Rattle.pl_log.proofs.numbers.Numbers.pack.Given as goal
 
-abbrev pub invariant-loop-number : goal.invariant-loop-number
-invariant-loop-number l = l.bytes.items ++ all_packed (drop l.number-index l.numbers) ≡ all_packed l.numbers
+abbrev pub invariant-loop-place : goal.invariant-loop-place
+invariant-loop-place l = Tell (take l.place l.numbers) l.bytes.items

@@ -1,6 +1,6 @@
-use Rattle.std.proofs.Common.{◌≡◌, ◌++◌}
+-- the entries so far are copied
+use Rattle.std.proofs.Common.{◌≡◌, take}
 use Rattle.pl_update.proofs.evaluations.evaluations.EvaluationsCopied.copy.Given as goal
 
--- what was copied, and the entries that are left
-abbrev pub invariant-loop-id : goal.invariant-loop-id
-invariant-loop-id l = l.by_id.entries ++ l.id-iterator ≡ l.self
+abbrev pub invariant-loop-entry : goal.invariant-loop-entry
+invariant-loop-entry l = l.by_id.items ≡ take l.entry-index l.entry-items
