@@ -76,6 +76,7 @@ impl Found {
     fn clear(&mut self)
         ensures starts { self.new.starts.items ≡ [] }
         ensures ranges { self.new.ranges.items ≡ [] }
+        ensures next { self.new.next_start ≡ 4294967295 }
     {
         self.starts.clear();
         self.ranges.clear();

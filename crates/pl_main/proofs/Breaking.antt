@@ -24,7 +24,7 @@ use Rattle.pl_journal.specs.Written.{Adds}
 use Rattle.pl_main.specs.Tells.{AnswersMessage, AnswersMessageInPart}
 use Rattle.pl_input.specs.Places.{Place}
 use Rattle.pl_input.specs.Waits.{line_in}
-use Rattle.pl_main.specs.Plays.{AnswersMessages, unread, unheard, unwritten, LacksMemoryForNext, AnswersAllInPart}
+use Rattle.pl_main.specs.Plays.{AnswersMessages, unread, unheard, unwritten, LacksMemoryForNext, AnswersNextInPart, AnswersUntil}
 use Rattle.pl_main.specs.Runs.{fresh_state, unopened, in_opening, in_play, IsKeptModel, ModelBreaks, ModelRuns}
 use Rattle.pl_main.specs.Top.{program_options, line_limit, total_limit, fresh_reader, HasRead, WasGiven}
 use Rattle.pl_input.proofs.Reading.{gave_append, gave_lines, known}
@@ -141,7 +141,7 @@ record HasBroken (R : Rule) (turns : ℕ) (input : List ℕ) (source_left held n
   cut : IsCutShort run.model run.log held now
 
 -- All entries before a message were written, and a front of the lines of those that the message brought.
-cut_in_round : {R : Rule} (turns : ℕ) (m : Model) (start place : Place) (held opened now : Option (List ℕ)) (new : State) (plays : AnswersAllInPart R (fresh_state turns m) start opened new place now) (last : Added R plays.waiting new (line_in plays.step.message))
+cut_in_round : {R : Rule} (turns : ℕ) (m : Model) (start place : Place) (held opened now : Option (List ℕ)) (new : State) (plays : AnswersUntil R (AnswersNextInPart R) (fresh_state turns m) start opened new place now) (last : Added R plays.waiting new (line_in plays.step.message))
     → Adds held opened (text_from m 0 (opening (program_options turns) ∷ [])) → IsCutShort m (opening (program_options turns) ∷ (plays.plays.entries ++ last.entries)) held now
 unfolding world_of
 cut_in_round turns m start place held opened now new plays last first =
@@ -163,7 +163,7 @@ cut_in_round turns m start place held opened now new plays last first =
 
 broken : {R : Rule} (turns : ℕ) (input words heads_rest : List ℕ) (heads : List (List ℕ)) (m : Model) (start place : Place) (source_left held opened now : Option (List ℕ)) (new : State)
     → IsHead heads words → GivesLines line_limit total_limit input heads start.reader.room heads_rest → start.ahead ≡ Some heads_rest → BeginsAt start → IsModelText words m
-    → Adds held opened (text_from m 0 (opening (program_options turns) ∷ [])) → AnswersAllInPart R (fresh_state turns m) start opened new place now → Legal new.model new.log → ahead place.reader.held source_left ≡ place.ahead → HasBroken R turns input source_left held now
+    → Adds held opened (text_from m 0 (opening (program_options turns) ∷ [])) → AnswersUntil R (AnswersNextInPart R) (fresh_state turns m) start opened new place now → Legal new.model new.log → ahead place.reader.held source_left ≡ place.ahead → HasBroken R turns input source_left held now
 broken turns input words heads_rest heads m start place source_left held opened now new head gave is_ahead begins accepted first plays legal behind =
     let so_far = plays.plays in
     let next = line_in plays.step.message in
@@ -214,7 +214,7 @@ run_waited turns kept start middle input held opened written m mid begun text fi
     waited turns input begun.words k.rest begun.lines m start middle held opened written mid begun.head k.gave k.is (behind_text kept start (Some input) begun) (text begun.words begun.keeps) first plays legal
 
 run_broken : {R : Rule} (turns : ℕ) (kept : Option (Vec ℕ Global)) (start place : Place) (input : List ℕ) (source_left held opened now : Option (List ℕ)) (m : Model) (new : State) → IsBegun (fresh_reader line_limit) (Some input) kept start.reader start.ahead → IsKeptModel kept m
-    → Adds held opened (text_from m 0 (opening (program_options turns) ∷ [])) → AnswersAllInPart R (fresh_state turns m) start opened new place now → Legal new.model new.log → ahead place.reader.held source_left ≡ place.ahead → HasBroken R turns input source_left held now
+    → Adds held opened (text_from m 0 (opening (program_options turns) ∷ [])) → AnswersUntil R (AnswersNextInPart R) (fresh_state turns m) start opened new place now → Legal new.model new.log → ahead place.reader.held source_left ≡ place.ahead → HasBroken R turns input source_left held now
 run_broken turns kept start place input source_left held opened now m new begun text first plays legal behind =
     let k = known line_limit total_limit line_limit total_limit (Some input) input begun.lines start.reader.room start.ahead refl refl refl begun.took.gave in
     broken turns input begun.words k.rest begun.lines m start place source_left held opened now new begun.head k.gave k.is (behind_text kept start (Some input) begun) (text begun.words begun.keeps) first plays legal behind

@@ -25,7 +25,7 @@ use Rattle.pl_input.specs.Heads.{IsHead, IsBegun}
 use Rattle.pl_main.specs.Tells.{FillsUp, at_once, within}
 use Rattle.pl_journal.specs.Written.{Adds, WriteStops}
 use Rattle.pl_input.specs.Places.{Place}
-use Rattle.pl_main.specs.Plays.{AnswersMessages, EndsAll, AnswersAll, AnswersUntilHalt, AnswersUntilFull, AnswersAllOrStops}
+use Rattle.pl_main.specs.Plays.{AnswersMessages, EndsAll, AnswersAll, AnswersUntilHalt, AnswersNextUntilFull, AnswersUntil, AnswersAllOrStops}
 use Rattle.pl_main.specs.Runs.{fresh_state, unopened, in_opening, in_play, ModelRuns, IsKeptModel}
 use Rattle.pl_main.specs.Top.{ShowsNoLine, ShowsLimit, program_options, line_limit, total_limit, fresh_reader, HasRead}
 use Rattle.pl_input.proofs.Reading.{gave_append, gave_lines, known}
@@ -257,7 +257,7 @@ leaves_more m log input heads lines words room mid heads_rest bytes before next 
 
 pub full_ends : {R : Rule} (turns : ℕ) (input words heads_rest : List ℕ) (heads : List (List ℕ)) (m : Model) (start place : Place) (source_left held opened now : Option (List ℕ)) (new : State)
     → IsHead heads words → GivesLines line_limit total_limit input heads start.reader.room heads_rest → start.ahead ≡ Some heads_rest → BeginsAt start → IsModelText words m
-    → Adds held opened (text_from m 0 (opening (program_options turns) ∷ [])) → AnswersUntilFull R (fresh_state turns m) start opened new place now → Legal new.model new.log → ahead place.reader.held source_left ≡ place.ahead → IsFull (run_by R turns) input source_left held now
+    → Adds held opened (text_from m 0 (opening (program_options turns) ∷ [])) → AnswersUntil R (AnswersNextUntilFull R) (fresh_state turns m) start opened new place now → Legal new.model new.log → ahead place.reader.held source_left ≡ place.ahead → IsFull (run_by R turns) input source_left held now
 full_ends turns input words heads_rest heads m start place source_left held opened now new head gave is_ahead begins accepted first plays legal behind =
     let f = filled turns m start plays.middle place opened plays.written now plays.waiting new (line_in plays.step.message) plays.plays plays.step.fills plays.step.written in
     let split = split_is input heads words (lines_of heads_rest) head (gave_lines line_limit total_limit input heads start.reader.room heads_rest gave) in

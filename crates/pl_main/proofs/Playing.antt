@@ -27,7 +27,7 @@ use Rattle.pl_input.specs.Waits.{GetsFault, MessageGives, line_in}
 use Rattle.pl_main.specs.Tells.{IsReady, AnswersMessage, AnswersMessageInPart, FillsUp, at_once, within}
 use Rattle.pl_journal.specs.Written.{Adds, WriteStops}
 use Rattle.pl_input.specs.Places.{Place}
-use Rattle.pl_main.specs.Plays.{AnswersMessages, EndsAll, by_end, by_line, AnswersAll, AnswersUntilHalt, Answered, Filled, untold, told_in_part, Answering, AnswersNext, AnswersNextUntilFull, HaltsBeforeNext, unread, unheard, unwritten, AnswersUntilFull, AnswersNextOrStops, AnswersAllOrStops}
+use Rattle.pl_main.specs.Plays.{AnswersMessages, EndsAll, by_end, by_line, AnswersAll, AnswersUntilHalt, Answered, Filled, untold, told_in_part, Answering, AnswersNext, AnswersNextUntilFull, HaltsBeforeNext, unread, unheard, unwritten, AnswersNextOrStops, AnswersAllOrStops}
 use Rattle.pl_input.proofs.Reading.{took_none, took_more, gave_later}
 use Rattle.pl_input.proofs.Stopping.{never_full, never_writes, read_leaves, limit_leaves, stops_by}
 use Rattle.pl_journal.proofs.AboutWriting.{some_held, adds_then, appends_then}
@@ -322,12 +322,9 @@ plays_halt e old mid new start middle place held written now plays step =
       written = subst (λ (h : Option (List ℕ)). Adds held h (text_from old.model (length old.log) plays.entries)) (sym step.written) plays.written;
     }
 
-pub plays_fill : {R : Rule} (old mid new : State) (start middle place : Place) (held written now : Option (List ℕ)) → AnswersMessages R old start held mid middle written → AnswersNextUntilFull R mid middle written new place now → AnswersUntilFull R old start held new place now
-plays_fill old mid new start middle place held written now plays step = record { waiting = mid; middle = middle; written = written; plays = plays; step = step }
-
 pub plays_stop : {R : Rule} (old mid new : State) (start middle place : Place) (held written now : Option (List ℕ)) (e : Halt) → AnswersMessages R old start held mid middle written → AnswersNextOrStops R mid middle written (Err e) new place now → AnswersAllOrStops R old start held (Err e) new place now
 plays_stop old mid new start middle place held written now halt.Read plays step = plays_halt halt.Read old mid new start middle place held written now plays step
 plays_stop old mid new start middle place held written now halt.Write plays step = record { waiting = mid; middle = middle; written = written; plays = plays; step = step }
 plays_stop old mid new start middle place held written now halt.Limit plays step = plays_halt halt.Limit old mid new start middle place held written now plays step
-plays_stop old mid new start middle place held written now halt.Full plays step = plays_fill old mid new start middle place held written now plays step
+plays_stop old mid new start middle place held written now halt.Full plays step = record { waiting = mid; middle = middle; written = written; plays = plays; step = step }
 plays_stop old mid new start middle place held written now halt.Memory plays step = record { waiting = mid; middle = middle; written = written; plays = plays; step = step }

@@ -150,37 +150,19 @@ AnswersNextOrStops R old start held (Err halt.Read) new place now = HaltsBeforeN
 AnswersNextOrStops R old start held (Err halt.Write) new place now = AnswersNextInPart R old start held new place now
 AnswersNextOrStops R old start held (Err halt.Memory) new place now = LacksMemoryForNext R old start held new place now
 
--- The log got full.
-pub record AnswersUntilFull (R : Rule) (old : State) (start : Place) (held : Option (List ℕ)) (new : State) (place : Place)
-    (now : Option (List ℕ)) : Type 0 where
+-- Messages were answered, and the next came to this end.
+pub record AnswersUntil (R : Rule) (Last : State → Place → Option (List ℕ) → State → Place → Option (List ℕ) → Type 0) (old : State) (start : Place)
+    (held : Option (List ℕ)) (new : State) (place : Place) (now : Option (List ℕ)) : Type 0 where
   pub waiting : State
   pub middle : Place
   pub written : Option (List ℕ)
   pub plays : AnswersMessages R old start held waiting middle written
-  pub step : AnswersNextUntilFull R waiting middle written new place now
-
--- A front of a message's lines was written behind those before it.
-pub record AnswersAllInPart (R : Rule) (old : State) (start : Place) (held : Option (List ℕ)) (new : State) (place : Place)
-    (now : Option (List ℕ)) : Type 0 where
-  pub waiting : State
-  pub middle : Place
-  pub written : Option (List ℕ)
-  pub plays : AnswersMessages R old start held waiting middle written
-  pub step : AnswersNextInPart R waiting middle written new place now
-
--- Memory was wanting behind these messages.
-pub record AnswersUntilMemory (R : Rule) (old : State) (start : Place) (held : Option (List ℕ)) (new : State) (place : Place)
-    (now : Option (List ℕ)) : Type 0 where
-  pub waiting : State
-  pub middle : Place
-  pub written : Option (List ℕ)
-  pub plays : AnswersMessages R old start held waiting middle written
-  pub step : LacksMemoryForNext R waiting middle written new place now
+  pub step : Last waiting middle written new place now
 
 abbrev pub AnswersAllOrStops : Rule → State → Place → Option (List ℕ) → Result (Unit {0}) Halt → State → Place → Option (List ℕ) → Type 0
 AnswersAllOrStops R old start held (Ok u) new place now = AnswersAll R old start held new place now
 AnswersAllOrStops R old start held (Err halt.Limit) new place now = AnswersUntilHalt R halt.Limit old start held new place now
-AnswersAllOrStops R old start held (Err halt.Full) new place now = AnswersUntilFull R old start held new place now
+AnswersAllOrStops R old start held (Err halt.Full) new place now = AnswersUntil R (AnswersNextUntilFull R) old start held new place now
 AnswersAllOrStops R old start held (Err halt.Read) new place now = AnswersUntilHalt R halt.Read old start held new place now
-AnswersAllOrStops R old start held (Err halt.Write) new place now = AnswersAllInPart R old start held new place now
-AnswersAllOrStops R old start held (Err halt.Memory) new place now = AnswersUntilMemory R old start held new place now
+AnswersAllOrStops R old start held (Err halt.Write) new place now = AnswersUntil R (AnswersNextInPart R) old start held new place now
+AnswersAllOrStops R old start held (Err halt.Memory) new place now = AnswersUntil R (LacksMemoryForNext R) old start held new place now

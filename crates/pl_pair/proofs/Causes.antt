@@ -34,7 +34,8 @@ use Rattle.pl_pair.specs.Joins.{refusals}
 use Rattle.pl_pair.specs.Runs.{InMessages, HadLimit, MayFault, WhyNone, IsCauseOf, Given, RunsFull, RunsShort, RunEnds, RunsTo}
 use Rattle.pl_pair.proofs.Ending.{NoEnds}
 use Rattle.pl_pair.proofs.Saying.{told_front, told_lines, told_gave, messages_on, skip_blanks, none_left}
-use Rattle.pl_pair.proofs.Closing.{FeederList, stopped}
+use Rattle.pl_pair.proofs.Onward.{stopped}
+use Rattle.pl_pair.proofs.Inputs.{FeederList}
 use Rattle.pl_pair.proofs.Joining.{Joined, mets_same, entries, history, begins, chosen, inputs_same, ends_told}
 use Rattle.pl_machine.specs.declared.stop.Stop.{Stop}
 use Rattle.pl_pair.proofs.Feeding.{works_on}

@@ -29,7 +29,8 @@ use Rattle.pl_pair.specs.Duties.{role_of, begun_of}
 use Rattle.pl_pair.specs.Served.{AreOf, IsStopAtMost, AreOfUntil, MakesUntil, MakesOwn}
 use Rattle.pl_pair.specs.Runs.{Service, ServedIn, owns_of}
 use Rattle.pl_pair.specs.Chosen.{AreChosen}
-use Rattle.pl_pair.proofs.Closing.{one_at, at_other, stands_back, world_in, at_front}
+use Rattle.pl_pair.proofs.Onward.{world_in}
+use Rattle.pl_pair.proofs.OwnItems.{one_at, at_other, stands_back, at_front}
 
 -- ---- who does not make it
 

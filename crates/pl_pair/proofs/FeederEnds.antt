@@ -46,7 +46,10 @@ use Rattle.pl_pair.proofs.Saying.{told_on, told_all, up_to_last, up_to_told, if_
 use Rattle.pl_pair.proofs.Passing.{follows_on}
 use Rattle.pl_pair.proofs.Feeding.{entries_on, own_stands, heard_more}
 use Rattle.pl_pair.proofs.Cutting.{twice_on, twice_is, rest_some, rest_torn, whole_torn}
-use Rattle.pl_pair.proofs.Closing.{FeederList, inputs_kind, same_model, Rests, between, over, stopped, world_in}
+use Rattle.pl_pair.proofs.Closing.{same_model}
+use Rattle.pl_pair.proofs.Onward.{Rests, between, over, stopped, world_in}
+use Rattle.pl_pair.proofs.OwnItems.{inputs_kind}
+use Rattle.pl_pair.proofs.Inputs.{FeederList}
 use Rattle.pl_pair.proofs.Joining.{Joined, Settled, list_same, list_stop, met_full, entries, ends_told, inputs_same, settled_log, settled_text, settled_world, one_message, full_seen, full_round}
 use Rattle.pl_pair.proofs.Causes.{Whys, ends_refusal, given_by, limit_whys, memory_by, never_finished, no_other, team_run, read_whys, same_halt}
 use Rattle.pl_acts.proofs.FullLogs.{some_entries}

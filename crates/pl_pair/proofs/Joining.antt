@@ -49,7 +49,10 @@ use Rattle.pl_pair.proofs.Feeding.{own_stands}
 use Rattle.pl_pair.proofs.Owning.{handed_are, opening_is}
 use Rattle.pl_pair.specs.Chosen.{AreChosen}
 use Rattle.pl_pair.proofs.Choosing.{are_chosen}
-use Rattle.pl_pair.proofs.Closing.{FeederList, feeder_until, feeder_signed, MoreOf, more_of, NoInputs, made_no_inputs, repair_no_input, executed_no_input, inputs_are, no_further, one_input, same_model, Rests, between, over, stopped, world_in, at_front, entries_whole, over_none, between_input, stop_none}
+use Rattle.pl_pair.proofs.Closing.{same_model}
+use Rattle.pl_pair.proofs.Onward.{MoreOf, more_of, Rests, between, over, stopped, world_in, entries_whole, over_none, between_input, stop_none}
+use Rattle.pl_pair.proofs.OwnItems.{NoInputs, made_no_inputs, repair_no_input, executed_no_input, at_front}
+use Rattle.pl_pair.proofs.Inputs.{FeederList, feeder_until, feeder_signed, inputs_are, no_further, one_input}
 use Rattle.pl_machine.proofs.ShortLogs.{log_is_some}
 
 -- ---- the whole history, of the model that was handed in

@@ -6,6 +6,9 @@ pub mod Ends
 pub mod Ending
 pub mod Saying
 pub mod Closing
+pub mod Onward
+pub mod OwnItems
+pub mod Inputs
 pub mod Choosing
 pub mod Cutting
 pub mod Owning

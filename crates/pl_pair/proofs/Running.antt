@@ -46,7 +46,8 @@ use Rattle.pl_pair.specs.Runs.{Service, ServedIn, owns_of, pair_of, in_first_rou
 use Rattle.pl_pair.proofs.Saying.{up_to_next, if_known}
 use Rattle.pl_pair.proofs.Passing.{took_follows, follows_on, none_written}
 use Rattle.pl_pair.proofs.Feeding.{heard_none}
-use Rattle.pl_pair.proofs.Closing.{stopped, all_joined, closes_all}
+use Rattle.pl_pair.proofs.Closing.{all_joined, closes_all}
+use Rattle.pl_pair.proofs.Onward.{stopped}
 use Rattle.pl_pair.proofs.Joining.{Joined, whole_of}
 use Rattle.pl_pair.proofs.Causes.{ended_read, ended_write}
 use Rattle.pl_pair.proofs.FeederEnds.{runs}
