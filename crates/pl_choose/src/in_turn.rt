@@ -139,26 +139,27 @@ fn stays_made(purpose: Purpose, is_best: bool) -> bool
 fn best_if_below(
     alloc: Global,
     board: &mut Board,
-    stages: &[Stage],
+    mut stages: Vec<Stage>,
     fewer: Option<usize>,
     purpose: Purpose,
 ) -> Result<Option<Picked>, AllocError>
     requires unspoiled { board.old.spoiled ≡ false }
-    requires some { 0 < length stages.now }
-    requires stages { All (IsStage board.old.state) stages.now }
-    requires same { All (TakesOut (gone_in stages.now)) stages.now }
-    ensures picked { IfOk result (λ p. IsPickedIf purpose (IsFewestBelow board.old.state (map move_of stages.now) fewer) board.old p board.new) }
+    requires some { 0 < length stages.items }
+    requires stages { All (IsStage board.old.state) stages.items }
+    requires same { All (TakesOut (gone_in stages.items)) stages.items }
+    ensures picked { IfOk result (λ p. IsPickedIf purpose (IsFewestBelow board.old.state (map move_of stages.items) fewer) board.old p board.new) }
     ensures found { IfOk result (λ p. fewer ≡ None → is_some p ≡ true) }
 {
     let next = board.state().next_id;
-    let progress = try_each(alloc, board, stages, next)?;
+    let progress = try_each(alloc, board, &stages, next)?;
     let made = &stages[progress.at];
     let is_best = is_below(progress.best.left, fewer);
     if stays_made(purpose, is_best) {
         if progress.place != progress.at {
             make_instead(board, made, &stages[progress.place], next)?;
         }
-        return Ok(Some(Picked::Made(progress.best.mv)));
+        let Stage { mv, trial } = stages.swap_remove(progress.place);
+        return Ok(Some(Picked::Made(mv, Some(trial))));
     }
     make_change(board, &made.trial.undo, &mut Steps::new(Quiet))?;
     board.reset_next(next);
@@ -173,15 +174,15 @@ fn best_if_below(
 pub(crate) fn pick_if_below(
     alloc: Global,
     board: &mut Board,
-    stages: &[Stage],
+    stages: Vec<Stage>,
     fewer: Option<usize>,
     purpose: Purpose,
 ) -> Result<Option<Picked>, AllocError>
     requires unspoiled { board.old.spoiled ≡ false }
-    requires some { 0 < length stages.now }
-    requires stages { All (IsStage board.old.state) stages.now }
-    requires same { All (TakesOut (gone_in stages.now)) stages.now }
-    ensures picked { IfOk result (λ p. IsPickedIf purpose (IsFewestBelow board.old.state (map move_of stages.now) fewer) board.old p board.new) }
+    requires some { 0 < length stages.items }
+    requires stages { All (IsStage board.old.state) stages.items }
+    requires same { All (TakesOut (gone_in stages.items)) stages.items }
+    ensures picked { IfOk result (λ p. IsPickedIf purpose (IsFewestBelow board.old.state (map move_of stages.items) fewer) board.old p board.new) }
     ensures found { IfOk result (λ p. fewer ≡ None → is_some p ≡ true) }
     ensures err { OnErr result (board.new.spoiled ≡ true) }
 {
@@ -198,14 +199,14 @@ pub(crate) fn pick_if_below(
 pub(crate) fn pick_in_turn(
     alloc: Global,
     board: &mut Board,
-    stages: &[Stage],
+    stages: Vec<Stage>,
     purpose: Purpose,
 ) -> Result<Picked, AllocError>
     requires unspoiled { board.old.spoiled ≡ false }
-    requires some { 0 < length stages.now }
-    requires stages { All (IsStage board.old.state) stages.now }
-    requires same { All (TakesOut (gone_in stages.now)) stages.now }
-    ensures picked { IfOk result (λ p. IsPicked purpose (λ m. fewest board.old.state (map move_of stages.now) ≡ Some m) board.old p board.new) }
+    requires some { 0 < length stages.items }
+    requires stages { All (IsStage board.old.state) stages.items }
+    requires same { All (TakesOut (gone_in stages.items)) stages.items }
+    ensures picked { IfOk result (λ p. IsPicked purpose (λ m. fewest board.old.state (map move_of stages.items) ≡ Some m) board.old p board.new) }
     ensures err { OnErr result (board.new.spoiled ≡ true) }
 {
     match pick_if_below(alloc, board, stages, None, purpose)? {

@@ -35,6 +35,7 @@ pub record CanBeMade (s : PlanState) (m : RepairMove) : Type 0 where
 -- what the move takes out and places, and what undoes it
 pub record IsTrialOf (s : PlanState) (m : RepairMove) (gone : List ℕ) (placed : List Activity) (leaving : List ℕ) (returning : List Activity) : Type 0 where
   pub undone : IsUndoneBy s m gone placed leaving returning
+  pub gone_is : gone ≡ gone_by s m
   pub placed_is : placed ≡ placed_by s m
   pub leaving_is : leaving ≡ map id_of (placed_by s m)
   pub returning_is : returning ≡ picked s.plan.activities (gone_by s m)

@@ -7,7 +7,7 @@ use Rattle.pl_choose.proofs.choice.pick_of_stages.Goals as goal
 
 pub pick_if_below-requires-clause-same : goal.pick_if_below-requires-clause-same
 pick_if_below-requires-clause-same c =
-    let stages = c.args.stages.now in
+    let stages = c.args.stages.items in
     let first : Stage = c.index-stages-0.result in
     let is = c.deref.ensures.value
     ∙ (sym (ap (λ (t : Stage). t.trial.change.gone.items) c.index-stages-0.is)

@@ -6,14 +6,14 @@ use Rattle.pl_choose.proofs.InTurn.{gone_first, some_stage}
 use Rattle.pl_choose.proofs.fewest.pick_by_stages.Goals as goal
 
 pub bounds-stages-0 : goal.bounds-stages-0
-bounds-stages-0 c = some_stage c.args.stages.now _ _ c.requires.moves
+bounds-stages-0 c = some_stage c.args.stages.items _ _ c.requires.moves
 
 pub pick_in_turn-requires-clause-some : goal.pick_in_turn-requires-clause-some
-pick_in_turn-requires-clause-some c = some_stage c.args.stages.now _ _ c.requires.moves
+pick_in_turn-requires-clause-some c = some_stage c.args.stages.items _ _ c.requires.moves
 
 pub pick_in_turn-requires-clause-same : goal.pick_in_turn-requires-clause-same
 pick_in_turn-requires-clause-same c =
-    let stages = c.args.stages.now in
+    let stages = c.args.stages.items in
     let first : Stage = c.index-stages-0.result in
     let is = c.deref.ensures.value
     ∙ (sym (ap (λ (t : Stage). t.trial.change.gone.items) c.index-stages-0.is)
