@@ -1,7 +1,7 @@
 pub mod Steps
 pub mod Changing
 pub mod Shapes
-pub mod Replacing
-pub mod FullIds
-pub mod Compacting
+pub mod Finding
 pub mod Fewest
+pub mod Tails
+pub mod Twins

@@ -1,3 +1,4 @@
 pub mod Differences
-pub mod Compact
 pub mod Fewest
+pub mod Renames
+pub mod Memories

@@ -11,11 +11,11 @@ ghost use Rattle.pl_memo.specs.declared.difference.Difference.{Difference};
 ghost use Rattle.pl_memo.specs.Differences.{IsDifference, no_difference, leaving, Comes, IsChangedBy, CanLeave};
 ghost use Rattle.pl_plan.specs.declared.repair.RepairMove.{RepairMove};
 ghost use Rattle.pl_semantics.specs.declared.plan_state.PlanState.{PlanState};
-ghost use Rattle.pl_semantics.specs.Moves.{is_proper};
 ghost use Rattle.pl_semantics.specs.Legal.{left_after};
 ghost use Rattle.pl_semantics.specs.Whole.{IsWhole};
-ghost use Rattle.pl_renumbering.specs.Renumbered.{AgreesAhead, IsRenumbered, renumbered_move};
-ghost use Rattle.pl_memo.specs.Compact.{compact, full_id, compact_move, Differs, compact_state};
+ghost use Rattle.pl_memo.specs.declared.memory.Answer.{Answer};
+ghost use Rattle.pl_memo.specs.Memories.{AreProper, Holds, IsFewestAt};
+ghost use Rattle.pl_memo.specs.Renames.{OnlyRenames, renamed_move};
 ghost use Rattle.pl_memo.specs.Fewest.{fewest_place};
 
 /// A plan does not differ from itself. A replacement changes the difference by what leaves and what comes, and the plan is
@@ -29,22 +29,10 @@ pub fn laws_of_differences()
     ensures shape { (base xs : List Activity) (d : Difference) → AreRising base → AreRising xs → IsDifference base xs d → xs ≡ replaced base (map id_of d.gone) d.placed }
 {}
 
-/// A state is the compact form of its difference from a base, under the ids that stand behind compact ones. So two states
-/// whose differences from one base have the same compact form are alike: moves of one compact form leave as many conflicts
-/// in both.
-pub fn laws_of_compact_forms()
-    ensures state { (base s : PlanState) (d : Difference) → IsWhole base → IsWhole s → Differs base s d → IsRenumbered (full_id base.next_id s.next_id d.placed) (compact_state base (compact base.next_id d)) s }
-    ensures ahead { (base s : PlanState) (d : Difference) → IsWhole base → IsWhole s → Differs base s d → AgreesAhead (full_id base.next_id s.next_id d.placed) (compact_state base (compact base.next_id d)) s }
-    ensures moves { (base s : PlanState) (d : Difference) (m : RepairMove) → IsWhole base → IsWhole s → Differs base s d → is_proper s m ≡ true → renumbered_move (full_id base.next_id s.next_id d.placed) (compact_move base.next_id d m) ≡ m }
-    ensures left { (base s t : PlanState) (d e : Difference) (m n : RepairMove) → IsWhole base → IsWhole s → IsWhole t → Differs base s d → Differs base t e → compact base.next_id d ≡ compact base.next_id e
-        → is_proper s m ≡ true → is_proper t n ≡ true → compact_move base.next_id d m ≡ compact_move base.next_id e n → left_after s m ≡ left_after t n }
-{}
-
-/// The first move that leaves the fewest conflicts is told by the counts alone. So in two states whose differences from one
-/// base have the same compact form it stands at the same place, among moves of the same compact forms.
+/// The first move that leaves the fewest conflicts is told by its place. In two states that are the same but for the ids of the newest
+/// roots, it stands at the same place among moves that are the same but for these ids.
 pub fn laws_of_the_fewest()
     ensures place { (s : PlanState) (moves : List RepairMove) →
         find (λ m. list_all (λ other. nat_le (left_after s m) (left_after s other)) moves) moves ≡ slice_get moves (fewest_place s moves) }
-    ensures alike { (base s t : PlanState) (d e : Difference) (ms ns : List RepairMove) → IsWhole base → IsWhole s → IsWhole t → Differs base s d → Differs base t e → compact base.next_id d ≡ compact base.next_id e
-        → All (λ m. is_proper s m ≡ true) ms → All (λ n. is_proper t n ≡ true) ns → map (compact_move base.next_id d) ms ≡ map (compact_move base.next_id e) ns → fewest_place s ms ≡ fewest_place t ns }
+    ensures alike { (s : PlanState) (a : Answer) (moves : List RepairMove) → IsWhole s → Holds s a → OnlyRenames a.since s.plan.activities → map (renamed_move a.since) a.moves ≡ moves → AreProper s moves → IsFewestAt s moves a.place }
 {}
