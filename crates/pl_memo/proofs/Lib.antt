@@ -5,3 +5,4 @@ pub mod Finding
 pub mod Fewest
 pub mod Tails
 pub mod Twins
+pub mod Remembering
