@@ -17,11 +17,11 @@ use Rattle.pl_memo.specs.Renames.{AreTwins, renamed}
 
 weaker : (b c : ℕ) (xs : List Activity) → b ≤ c → RiseFrom c xs → RiseFrom b xs
 weaker b c [] le rises = tt
-weaker b c (x ∷ xs) le rises = (let first = rises.0 in omega (arith, le, first), rises.1)
+weaker b c (x ∷ xs) le rises = (omega (arith, le, rises.0), rises.1)
 
 pub behind : (c : ℕ) (xs ys : List Activity) → RiseFrom c (xs ++ ys) → RiseFrom c ys
 behind c [] ys rises = rises
-behind c (x ∷ xs) ys rises = weaker c (suc x.id) ys (let first = rises.0 in omega (arith, first)) (behind (suc x.id) xs ys rises.1)
+behind c (x ∷ xs) ys rises = weaker c (suc x.id) ys (omega (arith, rises.0)) (behind (suc x.id) xs ys rises.1)
 
 pub before_rises : (c : ℕ) (xs ys : List Activity) → RiseFrom c (xs ++ ys) → RiseFrom c xs
 before_rises c [] ys rises = tt
@@ -87,7 +87,9 @@ IsBefore gone placed a = RiseFrom a.id gone × RiseFrom a.id placed × IfSome a.
 -- it is the same with either list behind it
 pub front_same : (rest gone placed : List Activity) (zs : List Activity) → All (IsBefore gone placed) zs → map (renumbered (rank (rest ++ gone))) zs ≡ map (renumbered (rank (rest ++ placed))) zs
 front_same rest gone placed [] all = refl
-front_same rest gone placed (a ∷ zs) all = rw (same_id, same_parent a.parent (All-head (IsBefore gone placed) a zs all).2) (ap (λ l. record a { id = rank (rest ++ placed) a.id; parent = renumbered_place (rank (rest ++ placed)) a.parent } ∷ l) (front_same rest gone placed zs (All-tail (IsBefore gone placed) a zs all)))
+front_same rest gone placed (a ∷ zs) all =
+    ap (λ (x : Activity). x ∷ map (renumbered (rank (rest ++ gone))) zs) same_one
+    ∙ ap (λ (l : List Activity). renumbered (rank (rest ++ placed)) a ∷ l) (front_same rest gone placed zs (All-tail (IsBefore gone placed) a zs all))
   where
     is : IsBefore gone placed a
     is = All-head (IsBefore gone placed) a zs all
@@ -95,12 +97,14 @@ front_same rest gone placed (a ∷ zs) all = rw (same_id, same_parent a.parent (
     at : (id : ℕ) → id ≤ a.id → rank (rest ++ gone) id ≡ rank (rest ++ placed) id
     at id le = rank_before id rest gone (weaker id a.id gone le is.0) ∙ sym (rank_before id rest placed (weaker id a.id placed le is.1))
 
-    same_id : rank (rest ++ gone) a.id ≡ rank (rest ++ placed) a.id
-    same_id = at a.id (omega arith)
-
     same_parent : (o : Option (ℕ × ℕ)) → IfSome o (λ p. p.0 ≤ a.id) → renumbered_place (rank (rest ++ gone)) o ≡ renumbered_place (rank (rest ++ placed)) o
     same_parent None le = refl
     same_parent (Some p) le = ap (λ (n : ℕ). Some (n, p.1)) (at p.0 le)
+
+    same_one : renumbered (rank (rest ++ gone)) a ≡ renumbered (rank (rest ++ placed)) a
+    same_one =
+        ap (λ (n : ℕ). record a { id = n; parent = renumbered_place (rank (rest ++ gone)) a.parent }) (at a.id (omega arith))
+        ∙ ap (λ (o : Option (ℕ × ℕ)). record a { id = rank (rest ++ placed) a.id; parent = o }) (same_parent a.parent is.2)
 
 -- ---- behind it
 
@@ -131,7 +135,11 @@ module _ (xs ys : List Activity) (rises : AreRising xs) (rises_too : AreRising y
       let here : record g { id = n; parent = None } ≡ record p { id = n; parent = None } = ap (λ (a : Activity). record a { id = n; parent = None }) twins.0.same in
       let more : map (renumbered (rank xs)) gone ≡ map (renumbered (rank ys)) placed =
       tails_same (pre ++ g ∷ []) gone (pre_too ++ p ∷ []) placed (one_on pre g gone xs is) (one_on pre_too p placed ys is_too) (longer pre pre_too g p same) twins.1 in
-      rw (at, at_too, root, root_too, here, more) refl
+      let one : renumbered (rank xs) g ≡ record g { id = n; parent = None } =
+      ap (λ (k : ℕ). record g { id = k; parent = renumbered_place (rank xs) g.parent }) at ∙ ap (λ (o : Option (ℕ × ℕ)). record g { id = n; parent = renumbered_place (rank xs) o }) root in
+      let one_too : renumbered (rank ys) p ≡ record p { id = n; parent = None } =
+      ap (λ (k : ℕ). record p { id = k; parent = renumbered_place (rank ys) p.parent }) at_too ∙ ap (λ (o : Option (ℕ × ℕ)). record p { id = n; parent = renumbered_place (rank ys) o }) root_too in
+      ap (λ (x : Activity). x ∷ map (renumbered (rank xs)) gone) (one ∙ (here ∙ sym one_too)) ∙ ap (λ (l : List Activity). renumbered (rank ys) p ∷ l) more
 
   -- the id that stands for one of these has its rank
   pub renamed_rank : (pre gone pre_too placed : List Activity) (id : ℕ) (a : Activity) → xs ≡ pre ++ gone → ys ≡ pre_too ++ placed → length pre ≡ length pre_too → Pairwise AreTwins gone placed → activity_of id gone ≡ Some a

@@ -57,7 +57,7 @@ module _ (base xs : List Activity) (d : Difference) (stands : AreRising base) (r
 
       by_placed : (o : Option Activity) → activity_of id d.placed ≡ o → activity_of id d.gone ≡ None → activity_of id base ≡ option_or (activity_of id rest) nobody
       by_placed None e none =
-          let now : option_or (activity_of id rest) (activity_of id d.placed) ≡ shown base d id = found_now id in
+          let now : option_or (activity_of id rest) (activity_of id d.placed) ≡ option_or (activity_of id d.placed) (cond (is_some (activity_of id d.gone)) nobody (activity_of id base)) = found_now id in
           sym (rw (e, none) at now)
       by_placed (Some b) e none = by_base (activity_of id base) refl b e none ∙ sym (ap (λ (o : Option Activity). option_or o nobody) (none_before 0 id b rest d.placed whole_rises e))
 
@@ -109,18 +109,32 @@ module _ (before s : PlanState) (d : Difference) (whole : IsWhole before) (whole
       ∙ sym (map-append (renumbered (rank (front_ ++ d.placed))) front_ d.placed)))
 
   as_long : length before.plan.activities ≡ length s.plan.activities
-  as_long = rw (then_is, now_is) (omega (arith, length-append front_ d.gone, length-append front_ d.placed, same_length d.gone d.placed only.twins))
+  as_long =
+      let same : length (front_ ++ d.gone) ≡ length (front_ ++ d.placed) = omega (arith, length-append front_ d.gone, length-append front_ d.placed, same_length d.gone d.placed only.twins) in
+      ap (λ (l : List Activity). length l) then_is ∙ (same ∙ sym (ap (λ (l : List Activity). length l) now_is))
 
   same_ranked : map (renumbered (rank before.plan.activities)) before.plan.activities ≡ map (renumbered (rank s.plan.activities)) s.plan.activities
-  same_ranked = rw (then_is, now_is) ranked
+  same_ranked =
+      ap (λ (l : List Activity). map (renumbered (rank l)) l) then_is ∙ (ranked ∙ sym (ap (λ (l : List Activity). map (renumbered (rank l)) l) now_is))
 
   pub alike : AreAlike before s
-  alike = rw (beside.model, beside.goals, beside.bases, beside.moment, beside.committed, beside.limit, same_ranked, as_long) refl
+  alike =
+      let xs : List Activity = map (renumbered (rank before.plan.activities)) before.plan.activities in
+      let n : ℕ = length before.plan.activities in
+      ap (λ v. record before { model = v; plan = record { activities = xs }; next_id = n }) beside.model
+      ∙ (ap (λ v. record before { model = s.model; goals = v; plan = record { activities = xs }; next_id = n }) beside.goals
+      ∙ (ap (λ v. record before { model = s.model; goals = s.goals; bases = v; plan = record { activities = xs }; next_id = n }) beside.bases
+      ∙ (ap (λ (v : ℕ). record s { moment = v; committed = before.committed; live_limit = before.live_limit; plan = record { activities = xs }; next_id = n }) beside.moment
+      ∙ (ap (λ (v : ℕ). record s { committed = v; live_limit = before.live_limit; plan = record { activities = xs }; next_id = n }) beside.committed
+      ∙ (ap (λ (v : ℕ). record s { live_limit = v; plan = record { activities = xs }; next_id = n }) beside.limit
+      ∙ (ap (λ (l : List Activity). record s { plan = record { activities = l }; next_id = n }) same_ranked
+      ∙ ap (λ (k : ℕ). record s { plan = record { activities = map (renumbered (rank s.plan.activities)) s.plan.activities }; next_id = k }) as_long))))))
 
   -- ---- moves
 
   rank_same : (id : ℕ) (a : Activity) → found before id ≡ Some a → rank before.plan.activities id ≡ rank s.plan.activities (renamed d.gone d.placed id)
-  rank_same id a here = rw (then_is, now_is) (by_gone (activity_of id d.gone) refl)
+  rank_same id a here =
+      ap (λ (l : List Activity). rank l id) then_is ∙ (by_gone (activity_of id d.gone) refl ∙ ap (λ (l : List Activity). rank l (renamed d.gone d.placed id)) (sym now_is))
     where
       here_too : option_or (activity_of id front_) (activity_of id d.gone) ≡ Some a
       here_too = sym (found_either id front_ d.gone) ∙ (ap (activity_of id) (sym then_is) ∙ here)
@@ -130,7 +144,7 @@ module _ (before s : PlanState) (d : Difference) (whole : IsWhole before) (whole
       by_gone None e = by_front (activity_of id front_) refl
         where
           by_front : (o : Option Activity) → activity_of id front_ ≡ o → rank (front_ ++ d.gone) id ≡ rank (front_ ++ d.placed) (renamed d.gone d.placed id)
-          by_front None f = absurd (let bad : None ≡ Some a = sym (rw (e, f) refl) ∙ here_too in cc)
+          by_front None f = absurd (let bad : nobody ≡ Some a = rw (f, e) at here_too in cc)
           by_front (Some b) f =
               rank_before id front_ d.gone (above 0 id b front_ d.gone only.rises f)
               ∙ (sym (rank_before id front_ d.placed (above 0 id b front_ d.placed now_rises f))
