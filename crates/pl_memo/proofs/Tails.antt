@@ -81,7 +81,7 @@ rank_of c (x ∷ xs) a more rises =
 
 -- ---- the front
 
-abbrev IsBefore : List Activity → List Activity → Activity → Type 0
+abbrev pub IsBefore : List Activity → List Activity → Activity → Type 0
 IsBefore gone placed a = RiseFrom a.id gone × RiseFrom a.id placed × IfSome a.parent (λ p. p.0 ≤ a.id)
 
 -- it is the same with either list behind it

@@ -25,7 +25,7 @@ use Rattle.pl_memo.specs.Differences.{IsDifference, shown}
 use Rattle.pl_memo.specs.Fewest.{counts_after, first_least, fewest_place}
 use Rattle.pl_memo.specs.Memories.{AreProper, AreSameBeside, Holds, IsFewestAt}
 use Rattle.pl_memo.specs.Renames.{AreTwins, OnlyRenames, renamed, renamed_move}
-use Rattle.pl_memo.proofs.Tails.{above, all_above, before_rises, found_either, front_same, none_before, rank_before, renamed_other, renamed_rank, tails_same}
+use Rattle.pl_memo.proofs.Tails.{IsBefore, above, all_above, before_rises, found_either, front_same, none_before, rank_before, renamed_other, renamed_rank, tails_same}
 
 same_length : (gone placed : List Activity) → Pairwise AreTwins gone placed → length gone ≡ length placed
 same_length [] [] twins = refl
@@ -84,7 +84,7 @@ module _ (before s : PlanState) (d : Difference) (whole : IsWhole before) (whole
   now_rises = subst AreRising now_is whole_too.rising
 
   abbrev Is : Activity → Type 0
-  Is a = RiseFrom a.id d.gone × RiseFrom a.id d.placed × IfSome a.parent (λ p. p.0 ≤ a.id)
+  Is a = IsBefore d.gone d.placed a
 
   parents : (all zs behind : List Activity) → All (IsParented all) (zs ++ behind) → All (λ (a : Activity). RiseFrom a.id d.gone) zs → All (λ (a : Activity). RiseFrom a.id d.placed) zs → All Is zs
   parents all [] behind each old new = All-nil Is
