@@ -21,8 +21,11 @@ place_along : {X : Type 0} (count : X → ℕ) (p : X → Bool) (q : ℕ → Boo
 place_along count p q same [] = refl
 place_along count p q same (x ∷ xs) = rw (same x, place_along count p q same xs) refl
 
+pub place_of_fewest : (s : PlanState) (moves : List RepairMove) → position_or_len (λ m. list_all (λ other. leb (left_after s m) (left_after s other)) moves) moves ≡ fewest_place s moves
+place_of_fewest s moves = place_along (left_after s) (λ m. list_all (λ other. leb (left_after s m) (left_after s other)) moves) (is_least (counts_after s moves)) (λ m. all_counts s (left_after s m) moves) moves
+
 pub fewest_by_place : (s : PlanState) (moves : List RepairMove)
     → find (λ m. list_all (λ other. leb (left_after s m) (left_after s other)) moves) moves ≡ slice_get moves (fewest_place s moves)
 fewest_by_place s moves =
     find_at (λ m. list_all (λ other. leb (left_after s m) (left_after s other)) moves) moves
-    ∙ ap (slice_get moves) (place_along (left_after s) (λ m. list_all (λ other. leb (left_after s m) (left_after s other)) moves) (is_least (counts_after s moves)) (λ m. all_counts s (left_after s m) moves) moves)
+    ∙ ap (slice_get moves) (place_of_fewest s moves)
