@@ -157,7 +157,7 @@ fn choose_promising(
 {
     let least = least_left(board.state(), &proposal.mv);
     match try_alone(alloc, board, &proposal.mv, enough_for(purpose, Some(least)))? {
-        Alone::Made(_) => Ok(Some(proposal)),
+        Alone::Made(_told) => Ok(Some(proposal)),
         Alone::Undone { left } => {
             choose_behind(alloc, board, proposal, purpose, left <= least as usize)
         }
