@@ -56,3 +56,23 @@ pub remember_found-requires-clause-best : goal.remember_found-requires-clause-be
 remember_found-requires-clause-best c =
     let found = rw (c.in-Some-Found.is, c.in-Some-Found.field-0-is) at c.in_ok-mv.ensures.fewest in
     rw found.1 found.0
+
+pub remember_made-requires-clause-unspoiled : goal.remember_made-requires-clause-unspoiled
+remember_made-requires-clause-unspoiled c =
+    let made = rw (c.in-Some-Made.is, c.in-Some-Made.field-0-is) at c.in_ok-mv.ensures.fewest in
+    ap (λ (b : Standing). b.spoiled) made.2
+
+pub remember_found-requires-clause-unspoiled : goal.remember_found-requires-clause-unspoiled
+remember_found-requires-clause-unspoiled c =
+    let found = rw (c.in-Some-Found.is, c.in-Some-Found.field-0-is) at c.in_ok-mv.ensures.fewest in
+    rw found.1 c.requires.unspoiled
+
+pub returns-in-Some-Made-clause-board : goal.returns-in-Some-Made-clause-board
+returns-in-Some-Made-clause-board c =
+    let made = rw (c.in-Some-Made.is, c.in-Some-Made.field-0-is) at c.in_ok-mv.ensures.fewest in
+    rw made.0 (c.remember_made.ensures ∙ made.2)
+
+pub returns-in-Some-Found-clause-board : goal.returns-in-Some-Found-clause-board
+returns-in-Some-Found-clause-board c =
+    let found = rw (c.in-Some-Found.is, c.in-Some-Found.field-0-is) at c.in_ok-mv.ensures.fewest in
+    rw (c.remember_found.ensures, found.1) at c.make_if_mending.ensures.board
