@@ -54,10 +54,11 @@ pub(crate) fn remember_found(board: &mut Board, moves: &[RepairMove], best: &Rep
     requires best { fewest board.old.state moves.now ≡ Some best.now }
     ensures { board.new ≡ board.old }
 {
-    if FEW <= moves.len() {
-        let place = place_of(moves, best);
-        board.remember(moves, place);
+    if moves.len() < FEW {
+        return;
     }
+    let place = place_of(moves, best);
+    board.remember(moves, place);
 }
 
 // Remembers which of these moves was the best before it was made.
@@ -66,15 +67,16 @@ fn remember_trial(board: &mut Board, moves: &[RepairMove], best: &RepairMove, tr
     requires chosen { WasChosen board.old.state moves.now best.now trial }
     ensures { board.new ≡ board.old }
 {
-    if FEW <= moves.len() {
-        let place = place_of(moves, best);
-        board.remember_before(
-            &trial.undo.placed,
-            &trial.change.placed,
-            moves,
-            place,
-        );
+    if moves.len() < FEW {
+        return;
     }
+    let place = place_of(moves, best);
+    board.remember_before(
+        &trial.undo.placed,
+        &trial.change.placed,
+        moves,
+        place,
+    );
 }
 
 /// The same, if it is told what the move changed and how that is undone.
@@ -88,7 +90,8 @@ pub(crate) fn remember_made(
     requires chosen { WasChosenIfTold board.old.state moves.now best.now told }
     ensures { board.new ≡ board.old }
 {
-    if let Some(trial) = told {
-        remember_trial(board, moves, best, trial);
+    match told {
+        Some(trial) => remember_trial(board, moves, best, trial),
+        None => (),
     }
 }

@@ -6,3 +6,6 @@ recall-requires-clause-proper c = all_proper c.args.board.now.state c.args.moves
 
 pub returns-in-Some : goal.returns-in-Some
 returns-in-Some c = fewest_there c.args.board.now.state c.args.moves.now c.in-Some.place _ c.in-Some.ensures
+
+pub bounds-moves-place : goal.bounds-moves-place
+bounds-moves-place c = c.in-Some.ensures.there
