@@ -61,7 +61,7 @@ pub(crate) fn choose_fewest(
 {
     let conflict = repairs.conflict;
     match fewest(alloc, board, repairs.moves.as_slice(), purpose)? {
-        Some(Picked::Made(mv, _)) => Ok(Some(Proposal { conflict, mv })),
+        Some(Picked::Made(mv, _told)) => Ok(Some(Proposal { conflict, mv })),
         Some(Picked::Found(mv)) => make_if_mending(
             alloc,
             board,
@@ -133,7 +133,7 @@ fn choose_promising(
 {
     let least = least_left(board.state(), &proposal.mv);
     match try_alone(alloc, board, &proposal.mv, enough_for(purpose, Some(least)))? {
-        Alone::Made(_) => Ok(Some(proposal)),
+        Alone::Made(_told) => Ok(Some(proposal)),
         Alone::Undone { left } => {
             choose_behind(alloc, board, proposal, purpose, left <= least as usize)
         }
