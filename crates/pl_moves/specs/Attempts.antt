@@ -17,11 +17,15 @@ abbrev pub is_enough : Option ℕ → ℕ → Bool
 is_enough None left = false
 is_enough (Some most) left = nat_le left most && nat_lt left 4294967295
 
+-- the trial is what the move changes of the plan state, and how that is undone
+abbrev pub IsTrial : PlanState → RepairMove → Trial → Type 0
+IsTrial s m t = IsTrialOf s m t.change.gone.items t.change.placed.items t.undo.gone.items t.undo.placed.items
+
 -- Given a plan state and a move that is made in it, what is told of the move: what it changes and how that is undone. Nothing is told
 -- only of a move that changes no activities.
 abbrev pub IsToldOf : PlanState → RepairMove → Option Trial → Type 0
 IsToldOf s m None = IsOfActivities m → ⊥
-IsToldOf s m (Some t) = IsTrialOf s m t.change.gone.items t.change.placed.items t.undo.gone.items t.undo.placed.items
+IsToldOf s m (Some t) = IsTrial s m t
 
 -- it leaves no more than are enough, the board has the plan state that it makes, and it is told how it is undone
 pub record IsKeptMade (m : RepairMove) (enough : Option ℕ) (told : Option Trial) (before now : Standing) : Type 0 where
