@@ -3,6 +3,7 @@ pub mod Changing
 pub mod Shapes
 pub mod Finding
 pub mod Fewest
+pub mod Pairs
 pub mod Tails
 pub mod Twins
 pub mod Remembering

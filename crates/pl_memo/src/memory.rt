@@ -80,6 +80,9 @@ impl Answer {
         if !only_renames(&self.since, s.plan.activities()) {
             return None;
         }
+        if self.moves.len() != moves.len() {
+            return None;
+        }
         if !are_renamed(&self.since, self.moves.as_slice(), moves) {
             return None;
         }

@@ -15,22 +15,22 @@ use std::alloc::{AllocError, Global};
 fn all_left(alloc: Global, since: Difference, left: &[Activity]) -> Result<Difference, AllocError>
     ensures { IfOk result (λ d. d ≡ fold leaving since left.now) }
 {
-    let mut since = since;
+    let mut reached = since;
     for a in left {
-        since = since.leave(a.copy(alloc)?)?;
+        reached = reached.leave(a.copy(alloc)?)?;
     }
-    Ok(since)
+    Ok(reached)
 }
 
 // The difference once these activities have come into the plan.
 fn all_come(alloc: Global, since: Difference, more: &[Activity]) -> Result<Difference, AllocError>
     ensures { IfOk result (λ d. AllCome since more.now d) }
 {
-    let mut since = since;
+    let mut reached = since;
     for a in more {
-        since = since.come(a.copy(alloc)?)?;
+        reached = reached.come(a.copy(alloc)?)?;
     }
-    Ok(since)
+    Ok(reached)
 }
 
 /// The difference once some activities have left the plan and others have come in their places.

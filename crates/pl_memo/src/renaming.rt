@@ -27,7 +27,7 @@ pub(crate) fn only_renames(since: &Difference, activities: &[Activity]) -> bool
 {
     let gone = since.gone.as_slice();
     let placed = since.placed.as_slice();
-    if activities.len() < placed.len() {
+    if gone.len() != placed.len() || activities.len() < placed.len() {
         return false;
     }
     let (rest, newest) = activities.split_at(activities.len() - placed.len());
@@ -83,16 +83,20 @@ fn renamed_move(since: &Difference, mv: &RepairMove) -> RepairMove
     }
 }
 
+fn is_same_move(mv: &RepairMove, other: &RepairMove) -> bool
+    ensures { IsTrue result → mv.now ≡ other.now }
+{
+    *mv == *other
+}
+
 /// Whether the others are the moves with the ids that stand for their own.
 pub(crate) fn are_renamed(since: &Difference, moves: &[RepairMove], others: &[RepairMove]) -> bool
-    requires { length since.now.gone ≡ length since.now.placed }
+    requires twins { length since.now.gone ≡ length since.now.placed }
+    requires count { length moves.now ≡ length others.now }
     ensures { IsTrue result → map (renamed_move since.now) moves.now ≡ others.now }
 {
-    if moves.len() != others.len() {
-        return false;
-    }
     for (place, mv) in moves.iter().enumerate() {
-        if renamed_move(since, mv) != others[place] {
+        if !is_same_move(&renamed_move(since, mv), &others[place]) {
             return false;
         }
     }

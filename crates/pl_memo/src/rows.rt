@@ -1,7 +1,7 @@
 //! A few activities by rising id.
-ghost use Rattle.std.specs.Prelude.{◌≡◌, ℕ, ◌≤◌, ◌==◌, nat_lt, IfOk, is_some, length, map, Some, None, Option};
+ghost use Rattle.std.specs.Prelude.{◌≡◌, ℕ, nat_eq, nat_lt, IfOk, is_some};
 ghost use Rattle.std.specs.Option.{option_map};
-ghost use Rattle.std.specs.List.{insert};
+ghost use Rattle.std.specs.List.{position_or_len, prefix_len};
 ghost use Rattle.pl_plan.specs.declared.activity.Activity.{Activity};
 ghost use Rattle.pl_plan.specs.Activities as plan;
 
@@ -13,22 +13,48 @@ use std::alloc::AllocError;
 pub(crate) fn find(activities: &[Activity], id: u32) -> Option<&Activity>
     ensures { option_map (λ a. a.now) result ≡ plan.activity_of id activities.now }
 {
-    activities.iter().find(|a| a.id == id)
+    for a in activities {
+        if a.id == id {
+            return Some(a);
+        }
+    }
+    None
 }
 
 /// Whether an activity of this id is among them.
 pub(crate) fn has(activities: &[Activity], id: u32) -> bool
     ensures { result ≡ is_some (plan.activity_of id activities.now) }
 {
-    activities.iter().any(|a| a.id == id)
+    for a in activities {
+        if a.id == id {
+            return true;
+        }
+    }
+    false
 }
 
 // How many have smaller ids, from the first on.
 fn smaller(activities: &[Activity], id: u32) -> usize
-    ensures bound { result ≤ length activities.now }
-    ensures place { (a : Activity) → a.id ≡ id → plan.placed a activities.now ≡ insert activities.now result a }
+    ensures { result ≡ prefix_len (λ (a : Activity). nat_lt a.id id) activities.now }
 {
-    activities.iter().take_while(|a| a.id < id).count()
+    for (place, a) in activities.iter().enumerate() {
+        if id <= a.id {
+            return place;
+        }
+    }
+    activities.len()
+}
+
+// The place of the one of this id, or how many they are if it is not among them.
+fn place_of(activities: &[Activity], id: u32) -> usize
+    ensures { result ≡ position_or_len (λ (a : Activity). nat_eq a.id id) activities.now }
+{
+    for (place, a) in activities.iter().enumerate() {
+        if a.id == id {
+            return place;
+        }
+    }
+    activities.len()
 }
 
 /// With one more, before the first of a larger id.
@@ -46,11 +72,10 @@ pub(crate) fn without(activities: Items<Activity>, id: u32) -> Items<Activity>
     ensures { result ≡ plan.without id activities }
 {
     let mut list = activities.into_vec();
-    match list.iter().position(|a| a.id == id) {
-        Some(at) => {
-            list.remove(at);
-            Items::from_vec(list)
-        }
-        None => Items::from_vec(list),
+    let at = place_of(list.as_slice(), id);
+    if at < list.len() {
+        list.remove(at);
+        return Items::from_vec(list);
     }
+    Items::from_vec(list)
 }

@@ -1,5 +1,5 @@
 //! Activities that are the same, or the same but for their ids.
-ghost use Rattle.std.specs.Prelude.{◌≡◌, IsTrue, Some, None};
+ghost use Rattle.std.specs.Prelude.{◌≡◌, IsTrue, Some, None, length};
 ghost use Rattle.pl_lists.specs.Lists.{Pairwise};
 ghost use Rattle.pl_plan.specs.Activities.{activity_of};
 ghost use Rattle.pl_memo.specs.Renames.{AreTwins};
@@ -20,6 +20,18 @@ fn have_same_place(a: &Activity, b: &Activity) -> bool
     a.parent == b.parent && a.goal == b.goal
 }
 
+fn are_same_values(values: &[Option<i64>], others: &[Option<i64>]) -> bool
+    requires { length values.now ≡ length others.now }
+    ensures { IsTrue result → values.now ≡ others.now }
+{
+    for (place, value) in values.iter().enumerate() {
+        if *value != others[place] {
+            return false;
+        }
+    }
+    true
+}
+
 // Whether what was chosen, set and measured of two activities is the same.
 fn have_same_values(a: &Activity, b: &Activity) -> bool
     ensures detail { IsTrue result → a.now.detail ≡ b.now.detail }
@@ -29,7 +41,10 @@ fn have_same_values(a: &Activity, b: &Activity) -> bool
     if a.detail != b.detail || a.measured != b.measured {
         return false;
     }
-    a.set.as_slice() == b.set.as_slice()
+    if a.set.len() != b.set.len() {
+        return false;
+    }
+    are_same_values(a.set.as_slice(), b.set.as_slice())
 }
 
 fn is_same_but_id(a: &Activity, b: &Activity) -> bool
@@ -64,11 +79,9 @@ fn are_twins(a: &Activity, b: &Activity) -> bool
 
 /// Whether the lists are the same.
 pub(crate) fn are_same(all: &[Activity], others: &[Activity]) -> bool
+    requires { length all.now ≡ length others.now }
     ensures { IsTrue result → all.now ≡ others.now }
 {
-    if all.len() != others.len() {
-        return false;
-    }
     for (place, a) in all.iter().enumerate() {
         if !is_same(a, &others[place]) {
             return false;
@@ -79,11 +92,9 @@ pub(crate) fn are_same(all: &[Activity], others: &[Activity]) -> bool
 
 /// Whether each of the first list is a root, and the same but for its id as the one at its place in the other list.
 pub(crate) fn are_all_twins(all: &[Activity], others: &[Activity]) -> bool
+    requires { length all.now ≡ length others.now }
     ensures { IsTrue result → Pairwise AreTwins all.now others.now }
 {
-    if all.len() != others.len() {
-        return false;
-    }
     for (place, a) in all.iter().enumerate() {
         if !are_twins(a, &others[place]) {
             return false;
