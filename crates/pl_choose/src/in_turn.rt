@@ -194,7 +194,8 @@ fn pick_by_turns(
 {
     match best_if_below(alloc, board, &stages, fewer, purpose)? {
         Some(Turn::Made(place)) => {
-            let Stage { mv, trial } = stages.swap_remove(place);
+            let best = stages.swap_remove(place);
+            let Stage { mv, trial } = best;
             Ok(Some(Picked::Made(mv, Some(trial))))
         }
         Some(Turn::Found(mv)) => Ok(Some(Picked::Found(mv))),

@@ -97,7 +97,7 @@ pub fn are_known_to_leave(alloc: Global, board: &Board, row: &str) -> Option<boo
 }
 
 // What came of trying a move, in words.
-fn outcome(alloc: Global, came: &Attempt) -> Result<String, AllocError> {
+fn outcome_of(alloc: Global, came: &Attempt) -> Result<String, AllocError> {
     match came {
         Attempt::Made(_) => format!(in alloc; "Made"),
         Attempt::Undone { left } => format!(in alloc; "Undone {{ left: {left} }}"),
@@ -115,7 +115,7 @@ pub fn comes_of(alloc: Global, board: &mut Board, row: &str) -> Option<bool> {
         return None;
     }
     let came = attempt(alloc, board, &mv, enough, &mut Steps::new(Quiet)).ok()?;
-    let outcome = outcome(alloc, &came).ok()?;
+    let outcome = outcome_of(alloc, &came).ok()?;
     let next = board.next_id();
     if is_printed(format!(in alloc; "{outcome} {next}"), wanted)? {
         are_conflicts(alloc, board, conflicts)

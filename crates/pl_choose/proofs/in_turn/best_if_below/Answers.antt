@@ -4,7 +4,6 @@ use Rattle.pl_board.specs.Boards.{Standing, after}
 use Rattle.pl_semantics.specs.Legal.{left_after}
 use Rattle.pl_semantics.specs.Moves.{applied}
 use Rattle.pl_plan.specs.declared.repair.RepairMove.{RepairMove}
-use Rattle.pl_choose.specs.declared.stages.Stage.{Stage}
 use Rattle.pl_choose.specs.Choice.{IsFewestBelow, is_below}
 use Rattle.pl_choose.specs.Stages.{move_of}
 use Rattle.pl_moves.proofs.Trying.{can_undo_then, home, last_state}
@@ -65,12 +64,13 @@ returns-then-stays_made-clause-turn c =
       | else-progress w ↦ w.board-is ∙ stands_best s whole c.args.stages.now _ c.requires.stages c.requires.same progress c.try_each.new.board c.in_ok-progress.ensures w.if-progress.false
     ] in
     let stages = c.args.stages.now in
-    let fewest : IsFewestBelow s (map move_of stages) c.args.fewer progress.best.mv = (c.in_ok-progress.ensures.best, below) in (
+    let P : RepairMove → Type 0 = IsFewestBelow s (map move_of stages) c.args.fewer in
+    let best : P progress.best.mv = (c.in_ok-progress.ensures.best, below) in (
       place_within s whole stages _ c.requires.stages c.requires.same progress c.try_each.new.board c.in_ok-progress.ensures,
-      λ (t : Stage) there.
+      λ t there.
           let is = best_at s whole stages _ c.requires.stages c.requires.same progress c.try_each.new.board c.in_ok-progress.ensures t there in (
             c.stays_made.ensures.mends c.if-stays_made.true,
-            subst (IsFewestBelow s (map move_of stages) c.args.fewer) (sym is) fewest,
+            subst P (sym is) best,
             made ∙ ap (λ (m : RepairMove). after (applied s m)) (sym is),
             stage_at s whole stages _ c.requires.stages c.requires.same progress c.try_each.new.board c.in_ok-progress.ensures t there,
           ),
