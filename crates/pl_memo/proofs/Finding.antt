@@ -35,3 +35,20 @@ without_at id (x ∷ xs) = by (eqb x.id id) (without_at id xs)
     by : (b : Bool) → without id xs ≡ remove xs (position_or_len (λ a. eqb a.id id) xs) → cond b xs (x ∷ without id xs) ≡ remove (x ∷ xs) (cond (not b) (1 + position_or_len (λ a. eqb a.id id) xs) 0)
     by true e = refl
     by false e = ap (λ l. x ∷ l) e ∙ ap (λ k. remove (x ∷ xs) k) (sym (one_more (position_or_len (λ y. eqb y.id id) xs)))
+
+pub smaller_le : (id : ℕ) (xs : List Activity) → prefix_len (λ (x : Activity). ltb x.id id) xs ≤ length xs
+smaller_le id [] = omega arith
+smaller_le id (x ∷ xs) = by (ltb x.id id) (smaller_le id xs)
+  where
+    by : (b : Bool) → prefix_len (λ (y : Activity). ltb y.id id) xs ≤ length xs → cond b (1 + prefix_len (λ (y : Activity). ltb y.id id) xs) 0 ≤ suc (length xs)
+    by true le = omega (arith, le)
+    by false le = omega arith
+
+-- where it is not among them, nothing is taken out
+pub without_none : (id : ℕ) (xs : List Activity) → length xs ≤ position_or_len (λ (a : Activity). eqb a.id id) xs → without id xs ≡ xs
+without_none id [] le = refl
+without_none id (x ∷ xs) le = by (eqb x.id id) le (without_none id xs)
+  where
+    by : (b : Bool) → suc (length xs) ≤ cond (not b) (1 + position_or_len (λ (a : Activity). eqb a.id id) xs) 0 → (length xs ≤ position_or_len (λ (a : Activity). eqb a.id id) xs → without id xs ≡ xs) → cond b xs (x ∷ without id xs) ≡ x ∷ xs
+    by true far more = absurd (omega (arith, far))
+    by false far more = ap (λ l. x ∷ l) (more (omega (arith, far)))

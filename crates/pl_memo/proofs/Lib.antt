@@ -4,6 +4,7 @@ pub mod Shapes
 pub mod Finding
 pub mod Fewest
 pub mod Pairs
+pub mod Joining
 pub mod Tails
 pub mod Twins
 pub mod Remembering

@@ -1,5 +1,6 @@
 -- Two lists that are gone through side by side.
 use Rattle.std.proofs.Common.{◌≡◌, ℕ, zero, suc, ◌+◌, ◌<◌, ◌≤◌, eqb, Bool, true, false, cond, List, [], ◌∷◌, ◌++◌, map, take, drop, length, get_or, refl, sym, ap, ◌∙◌, subst, arith}
+use Rattle.std.proofs.lemmas.Bool.{ne_eqb}
 use Rattle.std.proofs.lemmas.List.{take_more, take_all, map-append}
 use Rattle.pl_lists.specs.Lists.{Pairwise}
 use Rattle.pl_plan.specs.declared.activity.Activity.{Activity}
@@ -40,16 +41,14 @@ module _ {T U : Type 0} (R : T → U → Type 0) where
   pairs_all xs ys i ge long pairs =
       subst (λ (l : List T). Pairwise R l ys) (take_all i xs ge) (subst (λ (l : List U). Pairwise R (take i xs) l) (take_all i ys (omega (arith, ge, long))) pairs)
 
-pub renamed_step : (gone placed : List Activity) (i : ℕ) (d e : Activity) (id : ℕ) → i < length gone → length gone ≡ length placed
-    → renamed (drop i gone) (drop i placed) id ≡ cond (eqb (get_or gone i d).id id) (get_or placed i e).id (renamed (drop (i + 1) gone) (drop (i + 1) placed) id)
-renamed_step [] placed i d e id lt long = absurd (omega (arith, lt))
-renamed_step (g ∷ gone) [] i d e id lt long = absurd (omega (arith, long))
-renamed_step (g ∷ gone) (p ∷ placed) zero d e id lt long = refl
-renamed_step (g ∷ gone) (p ∷ placed) (suc i) d e id lt long = renamed_step gone placed i d e id (omega (arith, lt)) (omega (arith, long))
+-- one that is not looked for is passed over
+skipped : (gone placed : List Activity) (i : ℕ) (d : Activity) (id : ℕ) → i < length gone → length gone ≡ length placed → ((get_or gone i d).id ≡ id → ⊥) → renamed (drop (suc i) gone) (drop (suc i) placed) id ≡ renamed (drop i gone) (drop i placed) id
+skipped [] placed i d id lt long other = absurd (omega (arith, lt))
+skipped (g ∷ gone) [] i d id lt long other = absurd (omega (arith, long))
+skipped (g ∷ gone) (p ∷ placed) zero d id lt long other = sym (ap (λ (b : Bool). cond b p.id (renamed gone placed id)) (ne_eqb g.id id other))
+skipped (g ∷ gone) (p ∷ placed) (suc i) d id lt long other = skipped gone placed i d id (omega (arith, lt)) (omega (arith, long)) other
 
-pub renamed_none : (gone placed : List Activity) (i id : ℕ) → length gone ≤ i → renamed (drop i gone) (drop i placed) id ≡ id
-renamed_none [] placed zero id ge = refl
-renamed_none [] placed (suc i) id ge = refl
-renamed_none (g ∷ gone) placed zero id ge = absurd (omega (arith, ge))
-renamed_none (g ∷ gone) [] (suc i) id ge = renamed_none gone [] i id (omega (arith, ge))
-renamed_none (g ∷ gone) (p ∷ placed) (suc i) id ge = renamed_none gone placed i id (omega (arith, ge))
+pub renamed_more : (gone placed : List Activity) (i : ℕ) (d : Activity) (id : ℕ) → i < length gone → length gone ≡ length placed → ((get_or gone i d).id ≡ id → ⊥) → renamed (drop (i + 1) gone) (drop (i + 1) placed) id ≡ renamed (drop i gone) (drop i placed) id
+renamed_more gone placed i d id lt long other =
+    let on : i + 1 ≡ suc i = omega arith in
+    ap (λ (n : ℕ). renamed (drop n gone) (drop n placed) id) on ∙ skipped gone placed i d id lt long other

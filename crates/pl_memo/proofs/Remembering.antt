@@ -22,7 +22,7 @@ use Rattle.pl_memo.specs.declared.difference.Difference.{Difference}
 use Rattle.pl_memo.specs.declared.memory.Answer.{Answer}
 use Rattle.pl_memo.specs.declared.memory.Memory.{Memory}
 use Rattle.pl_memo.specs.Differences.{CanLeave, IsChangedBy, IsDifference, no_difference}
-use Rattle.pl_memo.specs.Memories.{AreProper, AreRemembered, AreSameBeside, Holds, HoldsIfAny, IsFewestAt, IsMadeFrom, WasFewestAt, alone, going}
+use Rattle.pl_memo.specs.Memories.{AreProper, AreRemembered, Holds, HoldsIfAny, IsFewestAt, IsMadeFrom, alone, going, nothing}
 use Rattle.pl_memo.proofs.Changing.{after_replacement, none_differs}
 
 -- ---- the next id
@@ -119,3 +119,13 @@ holds_after s t left more a d made h changed =
       fewest = h.fewest;
     } in
     subst (λ (w : PlanState). Holds w (record a { since = d })) (sym made.is) then_
+
+-- ---- a memory
+
+pub none_remembered : (s : PlanState) (m : Memory) → m ≡ nothing → AreRemembered s m
+none_remembered s m is = subst (λ (n : Memory). AreRemembered s n) (sym is) (record { newest = tt; second = tt; third = tt })
+
+-- what a change makes of a memory holds after a replacement in which each id that goes is named once
+pub remembered_after : (s : PlanState) (gone : List ℕ) (more : List Activity) (m n : Memory) → IsWhole s → AreOnce gone → CanReplace s gone more
+    → ((t u : PlanState) → IsMadeFrom t u (going s.plan.activities gone) more → AreRemembered t m → AreRemembered u n) → AreRemembered s m → AreRemembered (with_plan gone more s) n
+remembered_after s gone more m n whole once can changed are = changed s (with_plan gone more s) (made_from s gone more whole once can) are

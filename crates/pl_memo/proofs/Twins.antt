@@ -27,7 +27,7 @@ use Rattle.pl_memo.specs.Memories.{AreProper, AreSameBeside, Holds, IsFewestAt}
 use Rattle.pl_memo.specs.Renames.{AreTwins, OnlyRenames, renamed, renamed_move}
 use Rattle.pl_memo.proofs.Tails.{IsBefore, above, all_above, before_rises, found_either, front_same, none_before, rank_before, renamed_other, renamed_rank, tails_same}
 
-same_length : (gone placed : List Activity) → Pairwise AreTwins gone placed → length gone ≡ length placed
+pub same_length : (gone placed : List Activity) → Pairwise AreTwins gone placed → length gone ≡ length placed
 same_length [] [] twins = refl
 same_length [] (p ∷ placed) twins = absurd twins
 same_length (g ∷ gone) [] twins = absurd twins

@@ -31,7 +31,13 @@ pub(crate) fn only_renames(since: &Difference, activities: &[Activity]) -> bool
         return false;
     }
     let (rest, newest) = activities.split_at(activities.len() - placed.len());
-    are_same(newest, placed) && stand_before(rest, gone) && are_all_twins(gone, placed)
+    if !are_same(newest, placed) {
+        return false;
+    }
+    if !stand_before(rest, gone) {
+        return false;
+    }
+    are_all_twins(gone, placed)
 }
 
 // The id that stands for this one.
