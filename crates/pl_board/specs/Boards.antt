@@ -7,6 +7,8 @@ use Rattle.pl_semantics.specs.Whole.{IsWhole}
 use Rattle.pl_semantics.specs.Links.{placed_in}
 use Rattle.pl_semantics.specs.Conflicts.{conflicts_of}
 use Rattle.pl_update.specs.Evaluations.Kept.{AreOf}
+use Rattle.pl_memo.specs.declared.memory.Memory.{Memory}
+use Rattle.pl_memo.specs.Memories.{AreRemembered}
 use Rattle.pl_board.specs.declared.watched.WatchedState.{WatchedState}
 
 pub record Standing : Type 0 where
@@ -21,8 +23,9 @@ pub record IsWatched (w : WatchedState) : Type 0 where
   pub store : w.links ≡ kept_of w.state.model (placed_in w.state)
   pub found : w.conflicts ≡ conflicts_of w.state
 
-pub record IsSound (w : WatchedState) (spoiled : Bool) : Type 0 where
+pub record IsSound (w : WatchedState) (memory : Memory) (spoiled : Bool) : Type 0 where
   pub watched : spoiled ≡ false → IsWatched w
+  pub remembered : spoiled ≡ false → AreRemembered w.state memory
 
 -- an unspoiled board of this state
 abbrev pub after : PlanState → Standing

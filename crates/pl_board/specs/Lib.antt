@@ -11,4 +11,5 @@ pub use Rattle.pl_model.specs.Checked
 pub use Rattle.pl_facts.specs.Goals
 pub use Rattle.pl_links.specs.Broken
 pub use Rattle.pl_semantics.specs.Links
+pub use Rattle.pl_memo.specs.Memories
 pub mod Boards

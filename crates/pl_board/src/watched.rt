@@ -230,8 +230,8 @@ impl WatchedState {
     }
 }
 
-// Whether each id is less than the next.
-fn are_rising(ids: &[u32]) -> bool
+/// Whether each id is less than the next.
+pub(crate) fn are_rising(ids: &[u32]) -> bool
     ensures { IsTrue result → IsStrictlyIncreasing ids.now }
 {
     for place in 1..ids.len() {

@@ -32,7 +32,7 @@ few_enough Mend most left few = few
 -- ---- what is picked
 
 pub picked_as : (purpose : Purpose) (P Q : RepairMove → Type 0) (before : Standing) (p : Picked) (now : Standing) → ((m : RepairMove) → P m → Q m) → IsPicked purpose P before p now → IsPicked purpose Q before p now
-picked_as why P Q before (Made m) now so picked = (picked.0, so m picked.1, picked.2)
+picked_as why P Q before (Made m told) now so picked = (picked.0, so m picked.1, picked.2, picked.3)
 picked_as why P Q before (Found m) now so picked = (so m picked.0, picked.1)
 
 -- the same where nothing may be picked

@@ -154,6 +154,13 @@ module _ (s : PlanState) (whole : IsWhole s) (stages : List Stage) (gone : List 
   pub stands_best : t.place ≡ t.at → now ≡ after (applied s t.best.mv)
   stands_best is = tried.made any ∙ ap (λ (m : RepairMove). after (applied s m)) (ap (λ (k : ℕ). get_or (map move_of stages) k any) (sym is) ∙ tried.there any)
 
+  -- the move at the place of the best is the best
+  pub best_at : (other : Stage) → other ≡ get_or stages t.place other → other.mv ≡ t.best.mv
+  best_at other is_other = move_at s whole stages gone are same t.place other place_within is_other ∙ tried.there any
+
+  pub stage_at : (other : Stage) → other ≡ get_or stages t.place other → IsStage s other
+  stage_at other is_other = is_stage s whole stages gone are same t.place other place_within is_other
+
   module _ (one : Stage) (is : one ≡ get_or stages t.at one) where
     pub undone_by : IsUndoneBy s one.mv one.trial.change.gone.items one.trial.change.placed.items one.trial.undo.gone.items one.trial.undo.placed.items
     undone_by = (is_stage s whole stages gone are same t.at one at_within is).undone

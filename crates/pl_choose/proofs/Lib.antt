@@ -7,3 +7,4 @@ pub mod Between
 pub mod Instead
 pub mod InTurn
 pub mod Promise
+pub mod Remembered

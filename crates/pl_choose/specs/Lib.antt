@@ -11,3 +11,4 @@ pub mod Stages
 pub mod InTurn
 pub mod Choice
 pub mod Promising
+pub mod Remembered

@@ -3,6 +3,7 @@ use Rattle.std.specs.Prelude.{◌≡◌, ℕ, List, Option, Some, None}
 use Rattle.pl_plan.specs.declared.repair.RepairMove.{RepairMove}
 use Rattle.pl_semantics.specs.Moves.{applied}
 use Rattle.pl_board.specs.Boards.{Standing, after}
+use Rattle.pl_moves.specs.Attempts.{IsToldOf}
 use Rattle.pl_cand.specs.declared.proposal.Proposal.{Proposal}
 use Rattle.pl_cand.specs.Proposals.{mended}
 use Rattle.pl_choose.specs.declared.picked.Picked.{Picked}
@@ -17,9 +18,9 @@ enough_for Propose most = None
 enough_for Mend most = most
 
 -- Given: what a move is chosen for, what holds of the chosen move, the board before, the choice, and the board then. A move stays
--- made only if it is chosen to be made.
+-- made only if it is chosen to be made, and then it is told how it is undone.
 abbrev pub IsPicked : Purpose → (RepairMove → Type 0) → Standing → Picked → Standing → Type 0
-IsPicked why P before (Made m) now = (why ≡ Mend) × P m × (now ≡ after (applied before.state m))
+IsPicked why P before (Made m told) now = (why ≡ Mend) × P m × (now ≡ after (applied before.state m)) × IsToldOf before.state m told
 IsPicked why P before (Found m) now = P m × (now ≡ before)
 
 -- what is picked of some moves: the first that leaves the fewest conflicts, or nothing if there is no move

@@ -16,14 +16,15 @@ use crate::picked::Picked;
 use crate::purpose::{Purpose, enough_for};
 use crate::tries::{Tried, better};
 use pl_board::Board;
+use pl_moves::Trial;
 use pl_plan::RepairMove;
 use std::alloc::{AllocError, Global};
 
 /// What came of trying the aim.
-#[derive(Clone, Copy)]
+#[derive(Drop)]
 pub(crate) enum Aimed {
-    /// The aim is the best of all, and stays made.
-    Made(RepairMove),
+    /// The aim is the best of all, and stays made. What it changed and how that is undone is told, unless it drops a goal.
+    Made(RepairMove, Option<Trial>),
     /// The aim and the moves before it were tried, and none of them stays made.
     Passed(Tried),
 }
@@ -83,7 +84,7 @@ fn try_aim(
     let aim = moves[at];
     let enough = enough_for(purpose, enough_at(best, bounds, at));
     match try_alone(alloc, board, &aim, enough)? {
-        Alone::Made => Ok(Aimed::Made(aim)),
+        Alone::Made(trial) => Ok(Aimed::Made(aim, trial)),
         Alone::Undone { left } => {
             let first = above(best, &aim, left);
             let before = best_by_bounds(alloc, board, first, &moves[..at], &bounds[..at])?;
@@ -122,7 +123,7 @@ pub(crate) fn pick_by_aims(
         return Ok(Picked::Found(best.mv));
     }
     match try_aim(alloc, board, best, &hopes.moves, &hopes.bounds, purpose)? {
-        Aimed::Made(mv) => Ok(Picked::Made(mv)),
+        Aimed::Made(mv, trial) => Ok(Picked::Made(mv, trial)),
         Aimed::Passed(tried) => pick_by_aims(
             alloc,
             board,

@@ -5,16 +5,16 @@ ghost use Rattle.pl_choose.specs.Found.{IsAllowed};
 
 use crate::trial::exact;
 use pl_board::Board;
-use pl_moves::{Attempt, attempt};
+use pl_moves::{Attempt, Trial, attempt};
 use pl_plan::RepairMove;
 use pl_points::{Quiet, Steps};
 use std::alloc::{AllocError, Global};
 
 /// What comes of a move that is tried alone.
-#[derive(Clone, Copy)]
+#[derive(Drop)]
 pub(crate) enum Alone {
-    /// The move leaves few enough conflicts, and stays made.
-    Made,
+    /// The move leaves few enough conflicts, and stays made. What it changed and how that is undone is told, unless it drops a goal.
+    Made(Option<Trial>),
     /// The move leaves so many conflicts, and is undone.
     Undone { left: usize },
 }
@@ -34,7 +34,7 @@ pub(crate) fn try_alone(
     ensures err { OnErr result (board.new.spoiled ≡ true) }
 {
     match attempt(alloc, board, mv, enough, &mut Steps::new(Quiet))? {
-        Attempt::Made => Ok(Alone::Made),
+        Attempt::Made(trial) => Ok(Alone::Made(trial)),
         Attempt::Undone { left } => {
             let left = exact(alloc, board, mv, left)?;
             Ok(Alone::Undone { left })

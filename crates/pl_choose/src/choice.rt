@@ -40,17 +40,17 @@ fn are_choices(moves: &[RepairMove]) -> bool
 fn pick_of_stages(
     alloc: Global,
     board: &mut Board,
-    stages: &[Stage],
+    stages: Vec<Stage>,
     fewer: usize,
     purpose: Purpose,
 ) -> Result<Option<Picked>, AllocError>
     requires unspoiled { board.old.spoiled ≡ false }
-    requires some { 0 < length stages.now }
-    requires stages { All (IsStage board.old.state) stages.now }
-    ensures picked { IfOk result (λ p. IsPickedIf purpose (IsFewestBelow board.old.state (map move_of stages.now) (Some fewer)) board.old p board.new) }
+    requires some { 0 < length stages.items }
+    requires stages { All (IsStage board.old.state) stages.items }
+    ensures picked { IfOk result (λ p. IsPickedIf purpose (IsFewestBelow board.old.state (map move_of stages.items) (Some fewer)) board.old p board.new) }
     ensures err { OnErr result (board.new.spoiled ≡ true) }
 {
-    if take_out(&stages[0].trial.change.gone, stages) {
+    if take_out(&stages[0].trial.change.gone, &stages) {
         return pick_if_below(alloc, board, stages, Some(fewer), purpose);
     }
     Ok(None)
@@ -78,7 +78,7 @@ fn pick_of_hopes(
     }
     let staged = stages_of(alloc, board.state(), first, rest);
     let stages = or_spoil(board, staged)?;
-    pick_of_stages(alloc, board, &stages, fewer, purpose)
+    pick_of_stages(alloc, board, stages, fewer, purpose)
 }
 
 /// The best of some moves, if it is found among those that are not known to leave more conflicts than stand. Otherwise nothing is picked.

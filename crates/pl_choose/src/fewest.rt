@@ -28,7 +28,7 @@ use std::alloc::{AllocError, Global};
 const AIMS: u32 = 2;
 
 /// What came of trying the first of some moves.
-#[derive(Clone, Copy)]
+#[derive(Drop)]
 pub(crate) enum Started {
     /// The first leaves the fewest conflicts.
     Decided(Picked),
@@ -51,7 +51,7 @@ fn start_with(
     ensures err { OnErr result (board.new.spoiled ≡ true) }
 {
     match try_alone(alloc, board, first, enough_for(purpose, Some(least)))? {
-        Alone::Made => Ok(Started::Decided(Picked::Made(*first))),
+        Alone::Made(trial) => Ok(Started::Decided(Picked::Made(*first, trial))),
         Alone::Undone { left } => {
             if left <= least as usize {
                 return Ok(Started::Decided(Picked::Found(*first)));
@@ -153,19 +153,19 @@ fn pick_by_stages(
     board: &mut Board,
     first: &RepairMove,
     rest: &[RepairMove],
-    stages: &[Stage],
+    stages: Vec<Stage>,
     purpose: Purpose,
 ) -> Result<Picked, AllocError>
     requires unspoiled { board.old.spoiled ≡ false }
     requires next { board.old.state.next_id ≤ 3999999000 }
     requires first { IsAllowed board.old.state first.now }
     requires rest { All (IsAllowed board.old.state) rest.now }
-    requires stages { All (IsStage board.old.state) stages.now }
-    requires moves { map move_of stages.now ≡ first.now ∷ rest.now }
+    requires stages { All (IsStage board.old.state) stages.items }
+    requires moves { map move_of stages.items ≡ first.now ∷ rest.now }
     ensures picked { IfOk result (λ p. IsPicked purpose (λ m. fewest board.old.state (first.now ∷ rest.now) ≡ Some m) board.old p board.new) }
     ensures err { OnErr result (board.new.spoiled ≡ true) }
 {
-    if take_out(&stages[0].trial.change.gone, stages) {
+    if take_out(&stages[0].trial.change.gone, &stages) {
         return pick_in_turn(alloc, board, stages, purpose);
     }
     pick_by_bounds(alloc, board, first, rest, purpose)
@@ -189,7 +189,7 @@ fn pick_of_all(
 {
     let staged = stages_of(alloc, board.state(), first, rest);
     let stages = or_spoil(board, staged)?;
-    pick_by_stages(alloc, board, first, rest, &stages, purpose)
+    pick_by_stages(alloc, board, first, rest, stages, purpose)
 }
 
 // The best of the moves, of which these are the first and the others. Each chooses an alternative of one activity or deletes it.

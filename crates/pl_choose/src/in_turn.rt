@@ -9,7 +9,7 @@ ghost use Rattle.pl_choose.specs.declared.purpose.Purpose.TheVariants.{Mend};
 ghost use Rattle.pl_choose.specs.Picks.{fewest};
 ghost use Rattle.pl_choose.specs.Stages.{CanStandInstead, IsStage, TakesOut, instead, move_of, next_behind};
 ghost use Rattle.pl_choose.specs.Tried.{better_of};
-ghost use Rattle.pl_choose.specs.InTurn.{AreTried, gone_in};
+ghost use Rattle.pl_choose.specs.InTurn.{AreTried, IsTurnIf, gone_in};
 ghost use Rattle.pl_choose.specs.Choice.{IsFewestBelow, IsPickedIf, is_below};
 
 use crate::best::Best;
@@ -32,6 +32,15 @@ pub(crate) struct Progress {
     pub(crate) best: Best,
     /// The place of the best move so far.
     pub(crate) place: usize,
+}
+
+/// The best of the moves that are tried in turn.
+#[derive(Clone, Copy)]
+pub(crate) enum Turn {
+    /// The move at this place stays made.
+    Made(usize),
+    /// The move is not made.
+    Found(RepairMove),
 }
 
 // How many conflicts stand.
@@ -142,13 +151,13 @@ fn best_if_below(
     stages: &[Stage],
     fewer: Option<usize>,
     purpose: Purpose,
-) -> Result<Option<Picked>, AllocError>
+) -> Result<Option<Turn>, AllocError>
     requires unspoiled { board.old.spoiled ≡ false }
     requires some { 0 < length stages.now }
     requires stages { All (IsStage board.old.state) stages.now }
     requires same { All (TakesOut (gone_in stages.now)) stages.now }
-    ensures picked { IfOk result (λ p. IsPickedIf purpose (IsFewestBelow board.old.state (map move_of stages.now) fewer) board.old p board.new) }
-    ensures found { IfOk result (λ p. fewer ≡ None → is_some p ≡ true) }
+    ensures turn { IfOk result (λ t. IsTurnIf purpose (IsFewestBelow board.old.state (map move_of stages.now) fewer) board.old stages.now t board.new) }
+    ensures found { IfOk result (λ t. fewer ≡ None → is_some t ≡ true) }
 {
     let next = board.state().next_id;
     let progress = try_each(alloc, board, stages, next)?;
@@ -158,14 +167,40 @@ fn best_if_below(
         if progress.place != progress.at {
             make_instead(board, made, &stages[progress.place], next)?;
         }
-        return Ok(Some(Picked::Made(progress.best.mv)));
+        return Ok(Some(Turn::Made(progress.place)));
     }
     make_change(board, &made.trial.undo, &mut Steps::new(Quiet))?;
     board.reset_next(next);
     if is_best {
-        return Ok(Some(Picked::Found(progress.best.mv)));
+        return Ok(Some(Turn::Found(progress.best.mv)));
     }
     Ok(None)
+}
+
+// The same with what the best has changed, if it stays made.
+fn pick_by_turns(
+    alloc: Global,
+    board: &mut Board,
+    mut stages: Vec<Stage>,
+    fewer: Option<usize>,
+    purpose: Purpose,
+) -> Result<Option<Picked>, AllocError>
+    requires unspoiled { board.old.spoiled ≡ false }
+    requires some { 0 < length stages.items }
+    requires stages { All (IsStage board.old.state) stages.items }
+    requires same { All (TakesOut (gone_in stages.items)) stages.items }
+    ensures picked { IfOk result (λ p. IsPickedIf purpose (IsFewestBelow board.old.state (map move_of stages.items) fewer) board.old p board.new) }
+    ensures found { IfOk result (λ p. fewer ≡ None → is_some p ≡ true) }
+{
+    match best_if_below(alloc, board, &stages, fewer, purpose)? {
+        Some(Turn::Made(place)) => {
+            let best = stages.swap_remove(place);
+            let Stage { mv, trial } = best;
+            Ok(Some(Picked::Made(mv, Some(trial))))
+        }
+        Some(Turn::Found(mv)) => Ok(Some(Picked::Found(mv))),
+        None => Ok(None),
+    }
 }
 
 /// The best of some moves that take out the same activities, if it leaves fewer conflicts than this, if a number is given. Want of
@@ -173,19 +208,19 @@ fn best_if_below(
 pub(crate) fn pick_if_below(
     alloc: Global,
     board: &mut Board,
-    stages: &[Stage],
+    stages: Vec<Stage>,
     fewer: Option<usize>,
     purpose: Purpose,
 ) -> Result<Option<Picked>, AllocError>
     requires unspoiled { board.old.spoiled ≡ false }
-    requires some { 0 < length stages.now }
-    requires stages { All (IsStage board.old.state) stages.now }
-    requires same { All (TakesOut (gone_in stages.now)) stages.now }
-    ensures picked { IfOk result (λ p. IsPickedIf purpose (IsFewestBelow board.old.state (map move_of stages.now) fewer) board.old p board.new) }
+    requires some { 0 < length stages.items }
+    requires stages { All (IsStage board.old.state) stages.items }
+    requires same { All (TakesOut (gone_in stages.items)) stages.items }
+    ensures picked { IfOk result (λ p. IsPickedIf purpose (IsFewestBelow board.old.state (map move_of stages.items) fewer) board.old p board.new) }
     ensures found { IfOk result (λ p. fewer ≡ None → is_some p ≡ true) }
     ensures err { OnErr result (board.new.spoiled ≡ true) }
 {
-    match best_if_below(alloc, board, stages, fewer, purpose) {
+    match pick_by_turns(alloc, board, stages, fewer, purpose) {
         Ok(picked) => Ok(picked),
         Err(fault) => {
             board.spoil();
@@ -198,14 +233,14 @@ pub(crate) fn pick_if_below(
 pub(crate) fn pick_in_turn(
     alloc: Global,
     board: &mut Board,
-    stages: &[Stage],
+    stages: Vec<Stage>,
     purpose: Purpose,
 ) -> Result<Picked, AllocError>
     requires unspoiled { board.old.spoiled ≡ false }
-    requires some { 0 < length stages.now }
-    requires stages { All (IsStage board.old.state) stages.now }
-    requires same { All (TakesOut (gone_in stages.now)) stages.now }
-    ensures picked { IfOk result (λ p. IsPicked purpose (λ m. fewest board.old.state (map move_of stages.now) ≡ Some m) board.old p board.new) }
+    requires some { 0 < length stages.items }
+    requires stages { All (IsStage board.old.state) stages.items }
+    requires same { All (TakesOut (gone_in stages.items)) stages.items }
+    ensures picked { IfOk result (λ p. IsPicked purpose (λ m. fewest board.old.state (map move_of stages.items) ≡ Some m) board.old p board.new) }
     ensures err { OnErr result (board.new.spoiled ≡ true) }
 {
     match pick_if_below(alloc, board, stages, None, purpose)? {

@@ -10,6 +10,7 @@ use crate::fewest::fewest;
 use crate::picked::Picked;
 use crate::promising::promising;
 use crate::purpose::{Purpose, enough_for};
+use crate::remembering::{recalled, remember_found, remember_made};
 use crate::repairs::Repairs;
 use crate::search::first_repairs;
 use pl_board::Board;
@@ -45,7 +46,36 @@ pub(crate) fn make_if_mending(
     }
 }
 
-/// The best of the legal candidates of the first conflict that has one.
+// The best of the legal candidates of the first conflict that has one. They are tried, and the board remembers which one it is.
+fn choose_by_trials(
+    alloc: Global,
+    board: &mut Board,
+    repairs: &Repairs,
+    purpose: Purpose,
+) -> Result<Option<Proposal>, AllocError>
+    requires unspoiled { board.old.spoiled ≡ false }
+    requires next_id { board.old.state.next_id ≤ 3999999000 }
+    requires first { AreFirst board.old.state (Some repairs.now) }
+    ensures picks { IfOk result (λ p. p ≡ least_pick board.old.state) }
+    ensures board { IfOk result (λ p. board.new ≡ behind purpose p board.old) }
+    ensures err { OnErr result (board.new.spoiled ≡ true) }
+{
+    let conflict = repairs.conflict;
+    let moves = repairs.moves.as_slice();
+    match fewest(alloc, board, moves, purpose)? {
+        Some(Picked::Made(mv, told)) => {
+            remember_made(board, moves, &mv, told);
+            Ok(Some(Proposal { conflict, mv }))
+        }
+        Some(Picked::Found(mv)) => {
+            remember_found(board, moves, &mv);
+            make_if_mending(alloc, board, Proposal { conflict, mv }, purpose)
+        }
+        None => Ok(None),
+    }
+}
+
+/// The best of the legal candidates of the first conflict that has one: the board may remember it, and else they are tried.
 pub(crate) fn choose_fewest(
     alloc: Global,
     board: &mut Board,
@@ -60,15 +90,9 @@ pub(crate) fn choose_fewest(
     ensures err { OnErr result (board.new.spoiled ≡ true) }
 {
     let conflict = repairs.conflict;
-    match fewest(alloc, board, repairs.moves.as_slice(), purpose)? {
-        Some(Picked::Made(mv)) => Ok(Some(Proposal { conflict, mv })),
-        Some(Picked::Found(mv)) => make_if_mending(
-            alloc,
-            board,
-            Proposal { conflict, mv },
-            purpose,
-        ),
-        None => Ok(None),
+    match recalled(board, repairs.moves.as_slice()) {
+        Some(mv) => make_if_mending(alloc, board, Proposal { conflict, mv }, purpose),
+        None => choose_by_trials(alloc, board, repairs, purpose),
     }
 }
 
@@ -133,7 +157,7 @@ fn choose_promising(
 {
     let least = least_left(board.state(), &proposal.mv);
     match try_alone(alloc, board, &proposal.mv, enough_for(purpose, Some(least)))? {
-        Alone::Made => Ok(Some(proposal)),
+        Alone::Made(_told) => Ok(Some(proposal)),
         Alone::Undone { left } => {
             choose_behind(alloc, board, proposal, purpose, left <= least as usize)
         }

@@ -16,6 +16,7 @@ mod picked;
 mod picking;
 mod promising;
 mod purpose;
+mod remembering;
 mod repairs;
 mod search;
 mod seeded;

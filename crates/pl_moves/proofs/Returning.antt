@@ -198,7 +198,7 @@ pub subtree_rise : (xs : List Activity) → AreRising xs → (top : ℕ) → Ris
 unfolding subtree_of
 subtree_rise xs rising top = filter_rises (descends xs top) 0 (map id_of xs) (ids_rise 0 xs rising)
 
-gone_rise : (s : PlanState) → IsWhole s → (m : RepairMove) → RiseIds 0 (gone_by s m)
+pub gone_rise : (s : PlanState) → IsWhole s → (m : RepairMove) → RiseIds 0 (gone_by s m)
 gone_rise s whole (Add kind start goal) = tt
 gone_rise s whole (Delete id) = subtree_rise s.plan.activities whole.rising id
 gone_rise s whole (Shift id start) = subtree_rise s.plan.activities whole.rising id

@@ -8,6 +8,7 @@ use Rattle.pl_semantics.specs.declared.plan_state.PlanState.{PlanState}
 use Rattle.pl_semantics.specs.Candidates.{same_number}
 use Rattle.pl_semantics.specs.Legal.{left_after}
 use Rattle.pl_semantics.specs.Moves.{is_proper, refusal_of}
+use Rattle.pl_semantics.specs.Whole.{IsWhole}
 use Rattle.pl_moves.specs.Changes.{gone_by, placed_by}
 use Rattle.pl_moves.specs.Undone.{IsUndoneBy, picked}
 
@@ -34,7 +35,9 @@ pub record CanBeMade (s : PlanState) (m : RepairMove) : Type 0 where
 
 -- what the move takes out and places, and what undoes it
 pub record IsTrialOf (s : PlanState) (m : RepairMove) (gone : List ℕ) (placed : List Activity) (leaving : List ℕ) (returning : List Activity) : Type 0 where
+  pub whole : IsWhole s
   pub undone : IsUndoneBy s m gone placed leaving returning
+  pub gone_is : gone ≡ gone_by s m
   pub placed_is : placed ≡ placed_by s m
   pub leaving_is : leaving ≡ map id_of (placed_by s m)
   pub returning_is : returning ≡ picked s.plan.activities (gone_by s m)

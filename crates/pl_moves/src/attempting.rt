@@ -5,8 +5,7 @@ ghost use Rattle.pl_semantics.specs.Legal.{left_after};
 ghost use Rattle.pl_semantics.specs.Moves.{is_proper};
 ghost use Rattle.pl_moves.specs.Attempts.{IsAttempted, is_enough};
 ghost use Rattle.pl_moves.specs.Changes.{IsOfActivities};
-ghost use Rattle.pl_moves.specs.Runs.{CanBeMade};
-ghost use Rattle.pl_moves.specs.Undone.{IsUndoneBy};
+ghost use Rattle.pl_moves.specs.Runs.{CanBeMade, IsTrialOf};
 
 use crate::application::make_change;
 use crate::attempts::Attempt;
@@ -32,12 +31,12 @@ fn is_enough(enough: Option<u32>, left: u32) -> bool
 fn attempt_between<L: Ledger>(
     board: &mut Board,
     mv: &RepairMove,
-    trial: &Trial,
+    trial: Trial,
     enough: Option<u32>,
     steps: &mut Steps<L>,
 ) -> Result<Attempt, AllocError>
     requires unspoiled { board.old.spoiled ≡ false }
-    requires undone { IsUndoneBy board.old.state mv.now trial.now.change.gone.items trial.now.change.placed.items trial.now.undo.gone.items trial.now.undo.placed.items }
+    requires trial { IsTrialOf board.old.state mv.now trial.change.gone.items trial.change.placed.items trial.undo.gone.items trial.undo.placed.items }
     ensures attempted { IfOk result (λ a. IsAttempted mv.now enough board.old a board.new) }
     ensures err { OnErr result (board.new.spoiled ≡ true) }
 {
@@ -45,7 +44,7 @@ fn attempt_between<L: Ledger>(
     make_change(board, &trial.change, steps)?;
     let left = board.conflicts().len();
     if is_enough(enough, left) {
-        return Ok(Attempt::Made);
+        return Ok(Attempt::Made(Some(trial)));
     }
     make_change(board, &trial.undo, steps)?;
     board.reset_next(next);
@@ -68,7 +67,7 @@ fn attempt_change<L: Ledger>(
     ensures err { OnErr result (board.new.spoiled ≡ true) }
 {
     match trial_of(alloc, board.state(), mv) {
-        Ok(trial) => attempt_between(board, mv, &trial, enough, steps),
+        Ok(trial) => attempt_between(board, mv, trial, enough, steps),
         Err(fault) => {
             board.spoil();
             Err(fault)
@@ -111,11 +110,12 @@ fn attempt_drop(
         return Ok(Attempt::Undone { left });
     }
     board.drop_goal(goal)?;
-    Ok(Attempt::Made)
+    Ok(Attempt::Made(None))
 }
 
 /// Tries a move. It stays made if it leaves no more conflicts than `enough`, and is undone if it leaves more or if no number is
-/// given. Want of memory spoils the board.
+/// given. For a move of activities that stays made, the answer has what it changed and how that is undone. Want of memory spoils the
+/// board.
 pub fn attempt<L: Ledger>(
     alloc: Global,
     board: &mut Board,

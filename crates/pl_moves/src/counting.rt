@@ -29,7 +29,7 @@ pub(crate) fn count_after<L: Ledger>(
 {
     match attempt(alloc, board, mv, None, steps)? {
         Attempt::Undone { left } => Ok(left),
-        Attempt::Made => unreachable!(),
+        Attempt::Made(_) => unreachable!(),
     }
 }
 

@@ -27,7 +27,7 @@ pub(crate) fn is_made<L: Ledger>(
     }
     let tried = attempt(alloc, board, mv, Some(0), steps)?;
     match tried {
-        Attempt::Made => Ok(true),
+        Attempt::Made(_told) => Ok(true),
         Attempt::Undone { .. } => Ok(false),
     }
 }

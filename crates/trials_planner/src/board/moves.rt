@@ -10,7 +10,7 @@ use crate::reading::{sides, word};
 use pl_board::Board;
 use pl_bounds::{least_of_choices, least_of_each};
 use pl_cand::candidates;
-use pl_moves::{attempt, is_legal, legal, make};
+use pl_moves::{Attempt, attempt, is_legal, legal, make};
 use pl_plan::RepairMove;
 use pl_points::{Quiet, Steps};
 use std::alloc::{AllocError, Global};
@@ -96,6 +96,14 @@ pub fn are_known_to_leave(alloc: Global, board: &Board, row: &str) -> Option<boo
     }
 }
 
+// What came of trying a move, in words.
+fn outcome_of(alloc: Global, came: &Attempt) -> Result<String, AllocError> {
+    match came {
+        Attempt::Made(_) => format!(in alloc; "Made"),
+        Attempt::Undone { left } => format!(in alloc; "Undone {{ left: {left} }}"),
+    }
+}
+
 /// Whether this comes of trying a legal move.
 pub fn comes_of(alloc: Global, board: &mut Board, row: &str) -> Option<bool> {
     let (asked, rest) = sides(row);
@@ -107,8 +115,9 @@ pub fn comes_of(alloc: Global, board: &mut Board, row: &str) -> Option<bool> {
         return None;
     }
     let came = attempt(alloc, board, &mv, enough, &mut Steps::new(Quiet)).ok()?;
+    let outcome = outcome_of(alloc, &came).ok()?;
     let next = board.next_id();
-    if is_printed(format!(in alloc; "{came:?} {next}"), wanted)? {
+    if is_printed(format!(in alloc; "{outcome} {next}"), wanted)? {
         are_conflicts(alloc, board, conflicts)
     } else {
         Some(false)

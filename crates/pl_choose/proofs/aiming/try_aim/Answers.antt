@@ -26,6 +26,7 @@ returns-in-Made-clause-aimed c =
       is_mended c.args.purpose c.enough_at.result (left_after s (get_or moves at (Add 0 0 None))) few,
       aim_made s c.args.best moves c.args.bounds.now at (Add 0 0 None) c.enough_at.result within c.requires.least (few_enough c.args.purpose c.enough_at.result (left_after s (get_or moves at (Add 0 0 None))) few) c.enough_at.ensures.best c.enough_at.ensures.before c.enough_at.ensures.others,
       made.1,
+      made.2,
     )
 
 pub returns-in_ok-before-in-Undone-clause-aimed : goal.returns-in_ok-before-in-Undone-clause-aimed

@@ -1,11 +1,13 @@
-use Rattle.std.proofs.Common.{◌≡◌, ap, true, sym, ◌∙◌}
+use Rattle.std.proofs.Common.{◌≡◌, ap, map, true, subst, sym, ◌∙◌}
 use Rattle.pl_semantics.specs.Whole.{IsWhole}
 use Rattle.pl_board.specs.Boards.{Standing, after}
 use Rattle.pl_semantics.specs.Legal.{left_after}
 use Rattle.pl_semantics.specs.Moves.{applied}
-use Rattle.pl_choose.specs.Choice.{is_below}
+use Rattle.pl_plan.specs.declared.repair.RepairMove.{RepairMove}
+use Rattle.pl_choose.specs.Choice.{IsFewestBelow, is_below}
+use Rattle.pl_choose.specs.Stages.{move_of}
 use Rattle.pl_moves.proofs.Trying.{can_undo_then, home, last_state}
-use Rattle.pl_choose.proofs.InTurn.{any, at_within, can_best, made_by, makes_best, place_within, stands_best, undone_by}
+use Rattle.pl_choose.proofs.InTurn.{any, at_within, best_at, can_best, made_by, makes_best, place_within, stage_at, stands_best, undone_by}
 use Rattle.pl_choose.proofs.in_turn.best_if_below.Goals as goal
 use Rattle.pl_choose.proofs.in_turn.best_if_below.Goals.{then-progress+in_ok-make_instead, else-progress}
 
@@ -51,8 +53,8 @@ make_instead-requires-clause-can c =
     let whole : IsWhole c.args.board.now.state = rw c.state.ensures.value at (c.state.ensures.whole c.requires.unspoiled) in
     rw c.state.ensures.value (can_best c.args.board.now.state whole c.args.stages.now _ c.requires.stages c.requires.same c.in_ok-progress.progress c.try_each.new.board c.in_ok-progress.ensures c.index-stages-progress.result c.index-stages-progress.is c.index-stages-progress-then-progress.result c.index-stages-progress-then-progress.is)
 
-pub returns-then-stays_made-clause-picked : goal.returns-then-stays_made-clause-picked
-returns-then-stays_made-clause-picked c =
+pub returns-then-stays_made-clause-turn : goal.returns-then-stays_made-clause-turn
+returns-then-stays_made-clause-turn c =
     let s = c.args.board.now.state in
     let whole : IsWhole s = rw c.state.ensures.value at (c.state.ensures.whole c.requires.unspoiled) in
     let progress = c.in_ok-progress.progress in
@@ -61,10 +63,21 @@ returns-then-stays_made-clause-picked c =
       | then-progress+in_ok-make_instead w ↦ w.board-is ∙ makes_best s whole c.args.stages.now _ c.requires.stages c.requires.same progress c.try_each.new.board c.in_ok-progress.ensures c.index-stages-progress.result c.index-stages-progress.is w.index-stages-progress-then-progress.result w.index-stages-progress-then-progress.is w.make_instead.new.board (rw c.state.ensures.value at w.in_ok-make_instead.ensures)
       | else-progress w ↦ w.board-is ∙ stands_best s whole c.args.stages.now _ c.requires.stages c.requires.same progress c.try_each.new.board c.in_ok-progress.ensures w.if-progress.false
     ] in
-    (c.stays_made.ensures.mends c.if-stays_made.true, (c.in_ok-progress.ensures.best, below), made)
+    let stages = c.args.stages.now in
+    let P : RepairMove → Type 0 = IsFewestBelow s (map move_of stages) c.args.fewer in
+    let best : P progress.best.mv = (c.in_ok-progress.ensures.best, below) in (
+      place_within s whole stages _ c.requires.stages c.requires.same progress c.try_each.new.board c.in_ok-progress.ensures,
+      λ t there.
+          let is = best_at s whole stages _ c.requires.stages c.requires.same progress c.try_each.new.board c.in_ok-progress.ensures t there in (
+            c.stays_made.ensures.mends c.if-stays_made.true,
+            subst P (sym is) best,
+            made ∙ ap (λ (m : RepairMove). after (applied s m)) (sym is),
+            stage_at s whole stages _ c.requires.stages c.requires.same progress c.try_each.new.board c.in_ok-progress.ensures t there,
+          ),
+    )
 
-pub returns-then-is_best-clause-picked : goal.returns-then-is_best-clause-picked
-returns-then-is_best-clause-picked c =
+pub returns-then-is_best-clause-turn : goal.returns-then-is_best-clause-turn
+returns-then-is_best-clause-turn c =
     let s = c.args.board.now.state in
     let below : is_below c.args.fewer (left_after s c.in_ok-progress.progress.best.mv) ≡ true = ap (is_below c.args.fewer) (sym c.in_ok-progress.ensures.left) ∙ (sym c.is_below-is_best.ensures ∙ c.if-is_best.true) in
     let same : c.reset_next.new.self ≡ c.args.board.now =
@@ -74,8 +87,8 @@ returns-then-is_best-clause-picked c =
     home c.args.board.now _ _ _ _ _ undone c.try_each.new.board made c.make_change.new.board c.in_ok-make_change.ensures.ok c.requires.unspoiled _ (ap (λ s. s.next_id) c.state.ensures.value) _ c.reset_next.ensures in
     ((c.in_ok-progress.ensures.best, below), same)
 
-pub returns-clause-picked : goal.returns-clause-picked
-returns-clause-picked c =
+pub returns-clause-turn : goal.returns-clause-turn
+returns-clause-turn c =
     let whole : IsWhole c.args.board.now.state = rw c.state.ensures.value at (c.state.ensures.whole c.requires.unspoiled) in
     let undone = undone_by c.args.board.now.state whole c.args.stages.now _ c.requires.stages c.requires.same c.in_ok-progress.progress c.try_each.new.board c.in_ok-progress.ensures c.index-stages-progress.result c.index-stages-progress.is in
     let made = made_by c.args.board.now.state whole c.args.stages.now _ c.requires.stages c.requires.same c.in_ok-progress.progress c.try_each.new.board c.in_ok-progress.ensures c.index-stages-progress.result c.index-stages-progress.is in

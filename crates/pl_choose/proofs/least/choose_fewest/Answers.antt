@@ -3,35 +3,23 @@ use Rattle.std.proofs.lemmas.Result.{IfOk-weaker}
 use Rattle.pl_cand.specs.declared.proposal.Proposal.{Proposal}
 use Rattle.pl_cand.specs.Proposals.{IsProposal}
 use Rattle.pl_choose.specs.Picks.{proposal, least_pick}
-use Rattle.pl_choose.proofs.Proposing.{all_allowed, least_is_proposal, picks_least, picks_none}
+use Rattle.pl_choose.proofs.Proposing.{all_allowed, least_is_proposal, picks_least}
 use Rattle.pl_choose.proofs.least.choose_fewest.Goals as goal
 
-pub fewest-requires-clause-allowed : goal.fewest-requires-clause-allowed
-fewest-requires-clause-allowed c = rw (c.as_slice.ensures.value, c.requires.first.1) (all_allowed c.args.board.now.state c.args.repairs.now.conflict)
+pub recalled-requires-clause-allowed : goal.recalled-requires-clause-allowed
+recalled-requires-clause-allowed c = rw (c.as_slice.ensures.value, c.requires.first.1) (all_allowed c.args.board.now.state c.args.repairs.now.conflict)
 
 pub make_if_mending-requires-clause-legal : goal.make_if_mending-requires-clause-legal
 make_if_mending-requires-clause-legal c =
     let s = c.args.board.now.state in
     let P : Option Proposal → Type 0 = λ p. IsProposal s p in
-    let found = rw (c.in-Some-Found.is, c.in-Some-Found.field-0-is, c.as_slice.ensures.value) at c.in_ok-mv.ensures.fewest in
-    let is : Some (proposal c.args.repairs.now.conflict c.in-Some-Found.mv) ≡ least_pick s = picks_least s c.args.repairs.now c.in-Some-Found.mv c.requires.first found.0 in
-    rw found.1 (subst P (sym is) (least_is_proposal s))
+    let is : Some (proposal c.args.repairs.now.conflict c.in-Some.mv) ≡ least_pick s = picks_least s c.args.repairs.now c.in-Some.mv c.requires.first (rw c.as_slice.ensures.value at c.in-Some.ensures) in
+    subst P (sym is) (least_is_proposal s)
 
-pub returns-in-Some-Made-clause-picks : goal.returns-in-Some-Made-clause-picks
-returns-in-Some-Made-clause-picks c =
-    let made = rw (c.in-Some-Made.is, c.in-Some-Made.field-0-is, c.as_slice.ensures.value) at c.in_ok-mv.ensures.fewest in
-    picks_least c.args.board.now.state c.args.repairs.now c.in-Some-Made.mv c.requires.first made.1
-
-pub returns-in-Some-Found-clause-picks : goal.returns-in-Some-Found-clause-picks
-returns-in-Some-Found-clause-picks c =
+pub returns-in-Some-clause-picks : goal.returns-in-Some-clause-picks
+returns-in-Some-clause-picks c =
     let s = c.args.board.now.state in
-    let found = rw (c.in-Some-Found.is, c.in-Some-Found.field-0-is, c.as_slice.ensures.value) at c.in_ok-mv.ensures.fewest in
-    let is : Some (proposal c.args.repairs.now.conflict c.in-Some-Found.mv) ≡ least_pick s = picks_least s c.args.repairs.now c.in-Some-Found.mv c.requires.first found.0 in
-    let P : Option Proposal → Type 0 = λ p. p ≡ Some (proposal c.args.repairs.now.conflict c.in-Some-Found.mv) in
+    let is : Some (proposal c.args.repairs.now.conflict c.in-Some.mv) ≡ least_pick s = picks_least s c.args.repairs.now c.in-Some.mv c.requires.first (rw c.as_slice.ensures.value at c.in-Some.ensures) in
+    let P : Option Proposal → Type 0 = λ p. p ≡ Some (proposal c.args.repairs.now.conflict c.in-Some.mv) in
     let Q : Option Proposal → Type 0 = λ p. p ≡ least_pick s in
     IfOk-weaker c.make_if_mending.result P Q (λ p e. e ∙ is) c.make_if_mending.ensures.told
-
-pub returns-in-None-clause-picks : goal.returns-in-None-clause-picks
-returns-in-None-clause-picks c =
-    let none = rw (c.in-None.is, c.as_slice.ensures.value) at c.in_ok-mv.ensures.fewest in
-    picks_none c.args.board.now.state c.args.repairs.now c.requires.first none.0

@@ -9,5 +9,5 @@ trial_of-requires-clause-allowed g c = rw c.state.ensures.value c.requires.allow
 pub trial_of-requires-clause-next : goal.trial_of-requires-clause-next
 trial_of-requires-clause-next g c = rw c.state.ensures.value c.requires.next
 
-pub attempt_between-requires-clause-undone : goal.attempt_between-requires-clause-undone
-attempt_between-requires-clause-undone g c = rw c.state.ensures.value at c.in-Ok.ensures.undone
+pub attempt_between-requires-clause-trial : goal.attempt_between-requires-clause-trial
+attempt_between-requires-clause-trial g c = rw c.state.ensures.value at c.in-Ok.ensures

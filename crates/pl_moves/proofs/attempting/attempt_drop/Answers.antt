@@ -17,6 +17,7 @@ returns-then-not-is_enough-clause-attempted c = record {
 
 pub returns-clause-attempted : goal.returns-clause-attempted
 returns-clause-attempted c = record {
+  trial = λ none. none;
   few = told c.args.enough _ _ true c.in_ok-left.ensures.count c.if-not-is_enough.ensures;
   made = c.in_ok-drop_goal.ensures.ok ∙ (ap (λ (b : Standing). after (without_goal c.args.goal b.state)) c.in_ok-left.ensures.same ∙ ap after (dropped_is c.args.board.now.state c.args.goal));
 }

@@ -17,7 +17,9 @@ pub returns : goal.returns
 returns c =
     let s : PlanState = c.args.s.now in
     record {
+      whole = c.requires.whole;
       undone = rw (c.in_ok-undo.ensures.gone, c.in_ok-undo.ensures.placed, c.in_ok-change.ensures.gone, c.in_ok-change.ensures.placed) (undone_by s c.requires.whole c.requires.next c.args.mv.now c.requires.activities c.requires.proper c.requires.allowed);
+      gone_is = c.in_ok-change.ensures.gone;
       placed_is = c.in_ok-change.ensures.placed;
       leaving_is = c.in_ok-undo.ensures.gone ∙ ap (λ (l : List Activity). map id_of l) c.in_ok-change.ensures.placed;
       returning_is = c.in_ok-undo.ensures.placed ∙ ap (λ (l : List ℕ). picked s.plan.activities l) c.in_ok-change.ensures.gone;

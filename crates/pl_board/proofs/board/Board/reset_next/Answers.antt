@@ -1,5 +1,6 @@
 use Rattle.pl_update.proofs.AboutChanges.Keeping.{whole_with_next, conflicts_next}
 use Rattle.pl_update.proofs.AboutTimelines.StandingLater.{lines_next}
+use Rattle.pl_memo.proofs.Remembering.{remembered_next}
 use Rattle.pl_board.proofs.board.Board.reset_next.Goals as goal
 
 pub invariant_of-self : goal.invariant_of-self
@@ -17,4 +18,5 @@ invariant_of-self c =
             store = kept.store;
             found = rw (conflicts_next w.state c.args.id) kept.found;
           };
+      remembered = λ e. remembered_next w.state c.args.id c.self.inside.memory (c.self.invariant.remembered e);
     }

@@ -1,0 +1,10 @@
+pub mod Steps
+pub mod Changing
+pub mod Shapes
+pub mod Finding
+pub mod Fewest
+pub mod Pairs
+pub mod Joining
+pub mod Tails
+pub mod Twins
+pub mod Remembering

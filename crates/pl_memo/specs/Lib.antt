@@ -1,0 +1,4 @@
+pub mod Differences
+pub mod Fewest
+pub mod Renames
+pub mod Memories

@@ -1,0 +1,200 @@
+//! A memory of choices: which of some moves leaves the fewest conflicts.
+ghost use Rattle.std.specs.Prelude.{◌≡◌, IfOk, IfSome};
+ghost use Rattle.pl_semantics.specs.declared.plan_state.PlanState.{PlanState};
+ghost use Rattle.pl_semantics.specs.Whole.{IsWhole};
+ghost use Rattle.pl_memo.specs.Memories.{AreProper, AreRemembered, Holds, HoldsIfAny, IsFewestAt, IsMadeFrom, WasFewestAt, nothing};
+
+use crate::difference::Difference;
+use crate::noting::changed;
+use crate::renaming::{are_renamed, only_renames};
+use pl_lists::Items;
+use pl_plan::{Activity, RepairMove};
+use pl_semantics::PlanState;
+use std::alloc::{AllocError, Global};
+
+// An answer is forgotten once more activities than this have left the plan since it was given, or as many have come.
+const MOST: usize = 8;
+
+/// Of these moves, the one at this place was the first that leaves the fewest conflicts, in an earlier plan. `since` is how the plan
+/// differs from that one.
+#[derive(Drop)]
+pub struct Answer {
+    pub since: Difference,
+    pub moves: Items<RepairMove>,
+    pub place: usize,
+}
+
+/// The last three answers. A planner that goes to and fro between two plans, or among three, meets each of them again.
+#[derive(Drop)]
+pub struct Memory {
+    pub newest: Option<Answer>,
+    pub second: Option<Answer>,
+    pub third: Option<Answer>,
+}
+
+impl Answer {
+    // The answer of a plan that has not changed since.
+    fn new(alloc: Global, moves: &[RepairMove], place: usize) -> Result<Answer, AllocError>
+        ensures { IfOk result (λ a. (s : PlanState) → IsWhole s → AreProper s moves.now → IsFewestAt s moves.now place → Holds s a) }
+    {
+        Ok(Answer {
+            since: Difference::new(alloc),
+            moves: Items::from_vec(moves.to_vec(alloc)?),
+            place,
+        })
+    }
+
+    // The answer once some activities have left the plan and others have come in their places.
+    fn changed(
+        self,
+        alloc: Global,
+        left: &[Activity],
+        more: &[Activity],
+    ) -> Result<Answer, AllocError>
+        ensures { IfOk result (λ a. (s t : PlanState) → IsMadeFrom s t left.now more.now → Holds s self → Holds t a) }
+    {
+        let Answer {
+            since,
+            moves,
+            place,
+        } = self;
+        Ok(Answer {
+            since: changed(alloc, since, left, more)?,
+            moves,
+            place,
+        })
+    }
+
+    // Whether the plan differs little enough.
+    fn is_near(&self) -> bool {
+        self.since.gone.len() <= MOST && self.since.placed.len() <= MOST
+    }
+
+    // The place, if the answer is one for just these moves, in a plan that is the same but for the ids of its newest roots.
+    fn place_for(&self, s: &PlanState, moves: &[RepairMove]) -> Option<usize>
+        requires whole { IsWhole s.now }
+        requires holds { Holds s.now self.now }
+        requires proper { AreProper s.now moves.now }
+        ensures { IfSome result (IsFewestAt s.now moves.now) }
+    {
+        if !only_renames(&self.since, s.plan.activities()) {
+            return None;
+        }
+        if self.moves.len() != moves.len() {
+            return None;
+        }
+        if !are_renamed(&self.since, self.moves.as_slice(), moves) {
+            return None;
+        }
+        Some(self.place)
+    }
+}
+
+// An answer after a change of the plan, if it is still worth keeping and there is memory for it.
+fn kept(
+    alloc: Global,
+    answer: Option<Answer>,
+    left: &[Activity],
+    more: &[Activity],
+) -> Option<Answer>
+    ensures { (s t : PlanState) → IsMadeFrom s t left.now more.now → HoldsIfAny s answer → HoldsIfAny t result }
+{
+    let Ok(changed) = answer?.changed(alloc, left, more) else {
+        return None;
+    };
+    if changed.is_near() {
+        Some(changed)
+    } else {
+        None
+    }
+}
+
+fn place_if_any(answer: &Option<Answer>, s: &PlanState, moves: &[RepairMove]) -> Option<usize>
+    requires whole { IsWhole s.now }
+    requires holds { HoldsIfAny s.now answer.now }
+    requires proper { AreProper s.now moves.now }
+    ensures { IfSome result (IsFewestAt s.now moves.now) }
+{
+    match answer {
+        Some(answer) => answer.place_for(s, moves),
+        None => None,
+    }
+}
+
+impl Memory {
+    /// A memory of nothing.
+    pub fn new() -> Memory
+        ensures { result ≡ nothing }
+    {
+        Memory {
+            newest: None,
+            second: None,
+            third: None,
+        }
+    }
+
+    /// The place of the first of these moves that leaves the fewest conflicts, if it is remembered.
+    pub fn recall(&self, s: &PlanState, moves: &[RepairMove]) -> Option<usize>
+        requires whole { IsWhole s.now }
+        requires remembered { AreRemembered s.now self.now }
+        requires proper { AreProper s.now moves.now }
+        ensures { IfSome result (IsFewestAt s.now moves.now) }
+    {
+        if let Some(place) = place_if_any(&self.newest, s, moves) {
+            return Some(place);
+        }
+        if let Some(place) = place_if_any(&self.second, s, moves) {
+            return Some(place);
+        }
+        place_if_any(&self.third, s, moves)
+    }
+
+    /// What is remembered once some activities have left the plan and others have come in their places.
+    pub fn changed(self, alloc: Global, left: &[Activity], more: &[Activity]) -> Memory
+        ensures { (s t : PlanState) → IsMadeFrom s t left.now more.now → AreRemembered s self → AreRemembered t result }
+    {
+        Memory {
+            newest: kept(alloc, self.newest, left, more),
+            second: kept(alloc, self.second, left, more),
+            third: kept(alloc, self.third, left, more),
+        }
+    }
+
+    // With a newer answer, in the place of the oldest one.
+    fn with(self, newest: Option<Answer>) -> Memory
+        ensures { (s : PlanState) → HoldsIfAny s newest → AreRemembered s self → AreRemembered s result }
+    {
+        Memory {
+            newest,
+            second: self.newest,
+            third: self.second,
+        }
+    }
+
+    /// Remembers the place of the first of these moves that leaves the fewest conflicts, if there is memory for it.
+    pub fn remember(self, alloc: Global, moves: &[RepairMove], place: usize) -> Memory
+        ensures { (s : PlanState) → IsWhole s → AreProper s moves.now → IsFewestAt s moves.now place → AreRemembered s self → AreRemembered s result }
+    {
+        match Answer::new(alloc, moves, place) {
+            Ok(answer) => self.with(Some(answer)),
+            Err(_) => self,
+        }
+    }
+
+    /// The same of the plan that stood before some activities left it and others came in their places.
+    pub fn remember_before(
+        self,
+        alloc: Global,
+        left: &[Activity],
+        more: &[Activity],
+        moves: &[RepairMove],
+        place: usize,
+    ) -> Memory
+        ensures { (s : PlanState) → WasFewestAt s left.now more.now moves.now place → AreRemembered s self → AreRemembered s result }
+    {
+        match Answer::new(alloc, moves, place) {
+            Ok(answer) => self.with(kept(alloc, Some(answer), left, more)),
+            Err(_) => self,
+        }
+    }
+}

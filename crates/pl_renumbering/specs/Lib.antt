@@ -1,0 +1,3 @@
+pub mod Renumbered
+pub mod Carried
+pub mod Normal

@@ -1,0 +1,9 @@
+//! What a plan is worth does not depend on the ids of its activities, only on their order: the definitions and the laws.
+#![tactic(auto)]
+
+mod laws;
+
+pub use laws::{
+    laws_of_candidates, laws_of_conflicts, laws_of_ids, laws_of_moves, laws_of_normal_forms,
+    laws_of_trees, laws_of_values,
+};
