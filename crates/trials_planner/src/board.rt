@@ -14,6 +14,8 @@ mod planned;
 mod plans;
 mod questions;
 pub mod reading;
+mod recalled;
+mod recalling;
 mod refusals;
 mod repairs;
 mod rows;

@@ -63,7 +63,7 @@ pub fn is_known_to_leave(alloc: Global, board: &Board, row: &str) -> Option<bool
 }
 
 /// Those of the moves of a text that are legal.
-fn legal_moves(alloc: Global, board: &Board, text: &str) -> Result<Vec<RepairMove>, AllocError>
+pub fn legal_moves(alloc: Global, board: &Board, text: &str) -> Result<Vec<RepairMove>, AllocError>
     ensures { IfOk result (λ moves. All (CanBeMade board.now.state) moves.items) }
 {
     let mut moves = Vec::new(alloc);

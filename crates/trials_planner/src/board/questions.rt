@@ -9,6 +9,7 @@ use crate::board::moves::{
     are_known_to_leave, comes_of, is_known_to_leave, is_made, is_refused, is_tried_for,
 };
 use crate::board::plans::{is_due, is_evaluated, is_in_tree, is_said_of_copy};
+use crate::board::recalling::is_recalled;
 use crate::board::values::{are_conflicts, has_values};
 use crate::reading::sides;
 use pl_board::Board;
@@ -38,6 +39,9 @@ pub enum Asked {
     Made,
     /// A chooser, and the conflict that it mends by a move where one stands, all of which is right then.
     Mended,
+    /// A choice of the least chooser, with changes that come after it, legal moves, and the place of the best of them as it is recalled
+    /// then.
+    Recalled,
     /// An activity, its values, whether it is firm, and its end, as they are printed.
     Evaluated,
     /// An activity, its children, all below it and itself, and its root, as they are printed.
@@ -81,6 +85,7 @@ fn is_so(alloc: Global, board: &mut Board, asked: Asked, rest: &str) -> Option<b
         Asked::Attempt => comes_of(alloc, board, rest),
         Asked::Made => is_made(alloc, board, rest),
         Asked::Mended => is_mended(alloc, board, rest),
+        Asked::Recalled => is_recalled(alloc, board, rest),
         Asked::Evaluated => is_evaluated(alloc, board, rest),
         Asked::Tree => is_in_tree(alloc, board, rest),
         Asked::Plan => is_said_of_copy(alloc, board, rest),
