@@ -13,8 +13,8 @@ use Rattle.pl_choose.specs.declared.purpose.Purpose.TheVariants.{Mend}
 use Rattle.pl_choose.specs.Tried.{best_of}
 
 -- Given: what a move is chosen for, the best so far, the moves that may be better, the board before, what came of the aim, and the
--- board then. Either the aim is the best of all, stays made, and it is told how it is undone, or some moves were tried from the front, and the best of these and
--- the rest is the best of all.
+-- board then. Either the aim is the best of all: then it stays made, and what undoes it is told. Or some moves were tried from the front,
+-- and the best of these and the rest is the best of all.
 abbrev pub IsAimed : Purpose → Best → List RepairMove → Standing → Aimed → Standing → Type 0
 IsAimed why b moves before (Made m told) now = (why ≡ Mend) × (m ≡ (best_of (left_after before.state) b moves).mv) × (now ≡ after (applied before.state m)) × IsToldOf before.state m told
 IsAimed why b moves before (Passed t) now = (best_of (left_after before.state) t.best (drop t.count moves) ≡ best_of (left_after before.state) b moves) × (t.count ≤ length moves) × (now ≡ before)

@@ -1,5 +1,5 @@
 -- Moves that are tried in turn, each in place of the one before.
-use Rattle.std.specs.Prelude.{◌≡◌, ◌<◌, List, [], ◌∷◌, ℕ, length, slice_index_or, Option, Some, None}
+use Rattle.std.specs.Prelude.{◌≡◌, ◌<◌, List, [], ◌∷◌, ℕ, length, slice_get, slice_index_or, Option, Some, None}
 use Rattle.pl_plan.specs.declared.repair.RepairMove.{RepairMove}
 use Rattle.pl_semantics.specs.declared.plan_state.PlanState.{PlanState}
 use Rattle.pl_semantics.specs.Moves.{applied}
@@ -33,5 +33,5 @@ pub record AreTried (s : PlanState) (moves : List RepairMove) (t : Progress) (no
 -- if it is taken, and the board then. If none is taken, the board is as it was.
 abbrev pub IsTurnIf : Purpose → (RepairMove → Type 0) → Standing → List Stage → Option Turn → Standing → Type 0
 IsTurnIf why P before stages None now = now ≡ before
-IsTurnIf why P before stages (Some (Made place)) now = (place < length stages) × ((t : Stage) → t ≡ slice_index_or stages place t → IsPicked why P before (picked.Made t.mv (Some t.trial)) now)
+IsTurnIf why P before stages (Some (Made place)) now = (place < length stages) × ((t : Stage) → slice_get stages place ≡ Some t → IsPicked why P before (picked.Made t.mv (Some t.trial)) now)
 IsTurnIf why P before stages (Some (Found m)) now = IsPicked why P before (picked.Found m) now

@@ -4,7 +4,7 @@ use Rattle.pl_plan.specs.declared.repair.RepairMove.{RepairMove}
 use Rattle.pl_semantics.specs.declared.plan_state.PlanState.{PlanState}
 use Rattle.pl_semantics.specs.Whole.{IsIdBelow}
 use Rattle.pl_update.specs.Changes.Replaced.{CanReplace, next_after, with_plan}
-use Rattle.pl_moves.specs.Runs.{IsTrialOf}
+use Rattle.pl_moves.specs.Attempts.{IsTrial}
 use Rattle.pl_choose.specs.declared.stages.Stage.{Stage}
 
 abbrev pub move_of : Stage → RepairMove
@@ -12,7 +12,7 @@ move_of t = t.mv
 
 -- the trial is what the move changes of the plan state, and how that is undone
 abbrev pub IsStage : PlanState → Stage → Type 0
-IsStage s t = IsTrialOf s t.mv t.trial.change.gone.items t.trial.change.placed.items t.trial.undo.gone.items t.trial.undo.placed.items
+IsStage s t = IsTrial s t.mv t.trial
 
 -- the activities that it takes out
 abbrev pub TakesOut : List ℕ → Stage → Type 0

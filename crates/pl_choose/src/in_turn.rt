@@ -177,7 +177,7 @@ fn best_if_below(
     Ok(None)
 }
 
-// The same with what the best has changed, if it stays made.
+// The same. Where the best stays made, what it changed is told too.
 fn pick_by_turns(
     alloc: Global,
     board: &mut Board,

@@ -1,4 +1,5 @@
-//! Choices that were made before. The board remembers some of them as long as its plan is the same but for the ids of the newest roots.
+//! Choices that were made before. The board remembers some, and recalls one when its plan is again the same, or the same but for the ids
+//! of its newest roots.
 ghost use Rattle.std.specs.Prelude.{◌≡◌, ◌≢◌, false, true, Some, All, IfSome};
 ghost use Rattle.pl_semantics.specs.declared.plan_state.PlanState.{PlanState};
 ghost use Rattle.pl_memo.specs.Memories.{IsFewestAt};
@@ -47,7 +48,7 @@ fn place_of(moves: &[RepairMove], best: &RepairMove) -> usize
     moves.len()
 }
 
-/// Remembers which of these moves was found to be the best. The board is as it was when it was found.
+/// Remembers which of these moves was found to be the best. The board still is as it was when this was found.
 pub(crate) fn remember_found(board: &mut Board, moves: &[RepairMove], best: &RepairMove)
     requires unspoiled { board.old.spoiled ≡ false }
     requires allowed { All (IsAllowed board.old.state) moves.now }
@@ -71,12 +72,7 @@ fn remember_trial(board: &mut Board, moves: &[RepairMove], best: &RepairMove, tr
         return;
     }
     let place = place_of(moves, best);
-    board.remember_before(
-        &trial.undo.placed,
-        &trial.change.placed,
-        moves,
-        place,
-    );
+    board.remember_before(&trial.undo.placed, &trial.change.placed, moves, place);
 }
 
 /// The same, if it is told what the move changed and how that is undone.

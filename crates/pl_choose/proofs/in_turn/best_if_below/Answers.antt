@@ -1,4 +1,5 @@
-use Rattle.std.proofs.Common.{◌≡◌, ap, map, true, subst, sym, ◌∙◌}
+use Rattle.std.proofs.Common.{◌≡◌, ap, get_or, map, true, subst, sym, ◌∙◌}
+use Rattle.std.proofs.lemmas.Option.{slice_get-get_or}
 use Rattle.pl_semantics.specs.Whole.{IsWhole}
 use Rattle.pl_board.specs.Boards.{Standing, after}
 use Rattle.pl_semantics.specs.Legal.{left_after}
@@ -65,14 +66,16 @@ returns-then-stays_made-clause-turn c =
     ] in
     let stages = c.args.stages.now in
     let P : RepairMove → Type 0 = IsFewestBelow s (map move_of stages) c.args.fewer in
+    let within = place_within s whole stages _ c.requires.stages c.requires.same progress c.try_each.new.board c.in_ok-progress.ensures in
     let best : P progress.best.mv = (c.in_ok-progress.ensures.best, below) in (
-      place_within s whole stages _ c.requires.stages c.requires.same progress c.try_each.new.board c.in_ok-progress.ensures,
+      within,
       λ t there.
-          let is = best_at s whole stages _ c.requires.stages c.requires.same progress c.try_each.new.board c.in_ok-progress.ensures t there in (
+          let at : t ≡ get_or stages progress.place t = cc (there, slice_get-get_or stages progress.place t within) in
+          let is = best_at s whole stages _ c.requires.stages c.requires.same progress c.try_each.new.board c.in_ok-progress.ensures t at in (
             c.stays_made.ensures.mends c.if-stays_made.true,
             subst P (sym is) best,
             made ∙ ap (λ (m : RepairMove). after (applied s m)) (sym is),
-            stage_at s whole stages _ c.requires.stages c.requires.same progress c.try_each.new.board c.in_ok-progress.ensures t there,
+            stage_at s whole stages _ c.requires.stages c.requires.same progress c.try_each.new.board c.in_ok-progress.ensures t at,
           ),
     )
 
