@@ -1,3 +1,5 @@
+#![tactic(auto, using(pl_memo::proofs::Remembering::none_remembered))]
+
 ghost use Rattle.std.specs.Prelude.{◌≡◌, OnOk, OnErr, IfOk, IfSome, IsErr, true, false, None, ◌≤◌, ◌<◌, All, slice_get};
 ghost use Rattle.std.specs.Arc.{arc_value};
 ghost use Rattle.pl_facts.specs.Goals.{goal_of};
@@ -22,13 +24,14 @@ use std::alloc::{AllocError, Global};
 use std::mem;
 use std::sync::Arc;
 
-// Makes a change of what is watched. Until the change is whole the board counts as spoiled, and a spoiled board
-// refuses it.
+// Makes a change of what is watched, after which nothing is remembered. Until the change is whole the board counts as
+// spoiled, and a spoiled board refuses it.
 macro_rules! guarded {
     ($board:expr, $change:expr) => {{
         if $board.spoiled {
             return Err(AllocError);
         }
+        $board.memory = Memory::new();
         $board.spoiled = true;
         $change?;
         $board.spoiled = false;
@@ -37,7 +40,7 @@ macro_rules! guarded {
 }
 
 /// A plan state with its conflicts, which are mended near each change. After want of memory a board is spoiled for good. It also
-/// remembers choices; what it remembers is not seen in contracts.
+/// remembers choices, which no contract speaks of.
 #[derive(Drop)]
 pub struct Board {
     alloc: Global,
@@ -121,7 +124,7 @@ impl Board {
         }
     }
 
-    // The replacement, after which nothing is remembered.
+    // The replacement alone, which forgets all that is remembered.
     fn replace_watched<L: Ledger>(
         &mut self,
         gone: &[u32],
@@ -133,7 +136,6 @@ impl Board {
         ensures err { OnErr result (self.new.spoiled ≡ true) }
         ensures after_spoil { self.old.spoiled ≡ true → IsErr result }
     {
-        self.memory = Memory::new();
         guarded!(self, self.watched.replace(self.alloc, gone, placed, steps))
     }
 
@@ -182,7 +184,6 @@ impl Board {
         ensures err { OnErr result (self.new.spoiled ≡ true) }
         ensures after_spoil { self.old.spoiled ≡ true → IsErr result }
     {
-        self.memory = Memory::new();
         guarded!(self, self.watched.add_goal(self.alloc, goal))
     }
 
@@ -193,7 +194,6 @@ impl Board {
         ensures err { OnErr result (self.new.spoiled ≡ true) }
         ensures after_spoil { self.old.spoiled ≡ true → IsErr result }
     {
-        self.memory = Memory::new();
         guarded!(self, self.watched.drop_goal(self.alloc, number))
     }
 
@@ -205,7 +205,6 @@ impl Board {
         ensures err { OnErr result (self.new.spoiled ≡ true) }
         ensures after_spoil { self.old.spoiled ≡ true → IsErr result }
     {
-        self.memory = Memory::new();
         guarded!(self, self.watched.tick(self.alloc, now, steps))
     }
 
@@ -221,7 +220,6 @@ impl Board {
         ensures err { OnErr result (self.new.spoiled ≡ true) }
         ensures after_spoil { self.old.spoiled ≡ true → IsErr result }
     {
-        self.memory = Memory::new();
         guarded!(self, self.watched.tell(line, value, steps))
     }
 
@@ -233,7 +231,6 @@ impl Board {
         ensures err { OnErr result (self.new.spoiled ≡ true) }
         ensures after_spoil { self.old.spoiled ≡ true → IsErr result }
     {
-        self.memory = Memory::new();
         guarded!(self, self.watched.commit(self.alloc, h))
     }
 
@@ -249,7 +246,6 @@ impl Board {
         ensures err { OnErr result (self.new.spoiled ≡ true) }
         ensures after_spoil { self.old.spoiled ≡ true → IsErr result }
     {
-        self.memory = Memory::new();
         guarded!(self, self.watched.until(self.alloc, id, moment, steps))
     }
 
@@ -259,7 +255,6 @@ impl Board {
         ensures err { OnErr result (self.new.spoiled ≡ true) }
         ensures after_spoil { self.old.spoiled ≡ true → IsErr result }
     {
-        self.memory = Memory::new();
         guarded!(self, self.watched.withdraw(self.alloc))
     }
 
