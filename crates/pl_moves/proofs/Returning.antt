@@ -72,7 +72,7 @@ found_picked xs (id ∷ ids) q = by (activity_of id xs) refl (eqb id q) refl (fo
         rw test more
 
 -- each is one of them, and stands
-picked_stand : (xs : List Activity) (ids : List ℕ) → RiseIds 0 ids → All (λ a. (among a.id ids ≡ true) × (activity_of a.id xs ≡ Some a)) (picked xs ids)
+pub picked_stand : (xs : List Activity) (ids : List ℕ) → RiseIds 0 ids → All (λ a. (among a.id ids ≡ true) × (activity_of a.id xs ≡ Some a)) (picked xs ids)
 picked_stand xs ids rise i d lt = by (among a.id ids) refl
   where
     a : Activity
