@@ -53,13 +53,13 @@ listed_links s = flat_map (listed_if s) (conflicts_of s)
 -- ---- whether a move leaves it
 
 -- a temporal link, where no activity is placed of the kind that it seeks; an order, where it is not of the parent of what moves or goes
-abbrev pub is_sure : ℕ → List ℕ → Option ℕ → Option ℕ → Bool
-is_sure subject kinds parent (Some kind) = not (among kind kinds)
-is_sure subject kinds parent None = not (is_number subject parent)
+abbrev pub is_not_mended : ℕ → List ℕ → Option ℕ → Option ℕ → Bool
+is_not_mended subject kinds parent (Some kind) = not (among kind kinds)
+is_not_mended subject kinds parent None = not (is_number subject parent)
 
 -- its activity does not go, and what is placed does not mend it
 abbrev pub is_left : List ℕ → List ℕ → Option ℕ → LinkConflict → Bool
-is_left gone kinds parent k = not (among k.subject gone) && is_sure k.subject kinds parent k.sought
+is_left gone kinds parent k = not (among k.subject gone) && is_not_mended k.subject kinds parent k.sought
 
 abbrev pub is_left_if : List ℕ → List ℕ → Option ℕ → Option LinkConflict → Bool
 is_left_if gone kinds parent None = false

@@ -16,16 +16,16 @@ ghost use Rattle.pl_bounds.specs.Ties.{count_of_links};
 
 use crate::asking::Asking;
 use crate::bounding::past_after;
-use crate::breaches::add_breaches;
+use crate::broken_musts::add_broken_musts;
 use crate::choosing::{asked_by_choice, chosen_alone};
 use crate::ending::look_at_ends;
 use crate::marks::count_of_marks;
 use crate::newcomers::newcomers;
 use crate::outside::{Outside, outsides};
+use crate::passed_limits::add_limits;
 use crate::remainder::{left_alone_by_choice, left_by_choice};
 use crate::sorting::additions_of;
 use crate::standing::{Standing, standing_of};
-use crate::worsening::widen;
 use pl_board::Board;
 use pl_plan::{Activity, RepairMove};
 use std::alloc::{AllocError, Global};
@@ -47,7 +47,7 @@ fn times_by_choice(
     ensures different { OnOk result (AreDifferent past.new.items) }
     ensures least { IfOk result (λ n. n ≤ times_past (with_plan (root.now.id ∷ []) (placed_by board.now.state (Detail root.now.id alternative)) board.now.state) past.new.items) }
 {
-    widen(alloc, board, asking.coming.as_slice(), past)?;
+    add_limits(alloc, board, asking.coming.as_slice(), past)?;
     look_at_ends(alloc, board, asking.coming.as_slice(), past)?;
     let additions = additions_of(alloc, past.as_slice(), asking)?;
     Ok(past_after(board, past.as_slice(), asking, additions.as_slice(), 0))
@@ -86,7 +86,7 @@ fn others_by_choice(
     if most < both {
         return Ok(both);
     }
-    add_breaches(board, asking, &mut marks)?;
+    add_broken_musts(board, asking, &mut marks)?;
     Ok(count_of_marks(marks.as_slice()).saturating_add(times))
 }
 

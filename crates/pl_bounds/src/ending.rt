@@ -2,10 +2,10 @@
 ghost use Rattle.std.specs.Prelude.{◌≡◌, ◌<◌, false, All, OnOk, length};
 ghost use Rattle.pl_bounds.specs.Sides.{IsOutsideOf, AreDifferent};
 
+use crate::further_looks::place_of;
 use crate::looking::look_ahead;
 use crate::merging::merged;
 use crate::outside::{Outside, Side};
-use crate::widening::place_of;
 use pl_board::Board;
 use pl_semantics::{Asked, Demand};
 use std::alloc::{AllocError, Global};

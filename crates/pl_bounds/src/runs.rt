@@ -11,9 +11,9 @@ ghost use Rattle.pl_bounds.specs.Steps.{IsAdditionOf};
 use crate::asking::Asking;
 use crate::known::{Known, known_of};
 use crate::outside::Outside;
+use crate::passed_limits::{add_limits, look_where_past};
 use crate::sorting::{Addition, additions_of};
 use crate::standing::Standing;
-use crate::worsening::{look_where_past, widen};
 use pl_board::Board;
 use pl_moves::goes_on;
 use pl_plan::RepairMove;
@@ -28,7 +28,7 @@ pub(crate) struct Run {
 
 // Adds looks for what the move changes. For an addition also the limits that it may pass are looked at. For other moves that would cost
 // more than it saves, since a chooser looks at many shifts: only the effects that go are looked at.
-fn widen_for(
+fn look_for_move(
     alloc: Global,
     board: &Board,
     mv: &RepairMove,
@@ -42,7 +42,7 @@ fn widen_for(
     ensures different { OnOk result (AreDifferent past.new.items) }
 {
     match mv {
-        RepairMove::Add { .. } => widen(alloc, board, asking.coming.as_slice(), past),
+        RepairMove::Add { .. } => add_limits(alloc, board, asking.coming.as_slice(), past),
         _ => look_where_past(alloc, board, asking.going.as_slice(), past),
     }
 }
@@ -63,7 +63,7 @@ fn additions_for(
 {
     match &known.asking {
         Some(asking) => {
-            widen_for(alloc, board, &known.first, asking, past)?;
+            look_for_move(alloc, board, &known.first, asking, past)?;
             Ok(additions_of(alloc, past.as_slice(), asking)?)
         }
         None => Ok(Vec::new(alloc)),

@@ -1,7 +1,9 @@
 -- A difference after a replacement.
-use Rattle.std.proofs.Common.{◌≡◌, List, [], ◌∷◌, Some, None, refl, sym, subst, arith}
+use Rattle.std.proofs.Common.{◌≡◌, ℕ, ◌+◌, ◌<◌, ◌≤◌, List, [], ◌∷◌, length, drop, get_or, Some, None, refl, sym, subst, arith}
 use Rattle.std.specs.Prelude.{map}
 use Rattle.std.specs.List.{fold}
+use Rattle.std.proofs.Math.ListN.{drop_of_length-le}
+use Rattle.std.proofs.lemmas.List.{drop_more}
 use Rattle.pl_plan.specs.declared.activity.Activity.{Activity}
 use Rattle.pl_plan.specs.Activities.{AreRising, activity_of, placed, without}
 use Rattle.pl_plan.specs.Trees.{id_of}
@@ -9,7 +11,7 @@ use Rattle.pl_plan.proofs.Ids.{rising-without, rising-placed}
 use Rattle.pl_update.specs.Changes.Replaced.{taken, put, replaced}
 use Rattle.pl_update.specs.Changes.Putting.{CanPut}
 use Rattle.pl_memo.specs.declared.difference.Difference.{Difference}
-use Rattle.pl_memo.specs.Differences.{IsDifference, no_difference, leaving, AllCome, IsChangedBy, CanLeave}
+use Rattle.pl_memo.specs.Differences.{IsDifference, no_difference, leaving, Comes, AllCome, IsChangedBy, CanLeave}
 use Rattle.pl_memo.proofs.Steps.{after_leaving, after_coming}
 
 pub none_differs : (base : List Activity) → IsDifference base base no_difference
@@ -40,3 +42,12 @@ module _ (base : List Activity) where
   unfolding replaced
   after_replacement xs d e out more rises is leave can come =
       all_come (taken xs (map id_of out)) (fold leaving d out) e more (rises_left xs out rises) (all_leave xs d out rises is leave) can come
+
+-- ---- one after another
+
+pub one_comes : (more : List Activity) (i : ℕ) (d e reached : Difference) (x a : Activity) → i < length more → a ≡ get_or more i x → Comes d a e → AllCome e (drop (i + 1) more) reached → AllCome d (drop i more) reached
+one_comes more i d e reached x a lt here comes rest =
+    subst (λ (l : List Activity). AllCome d l reached) (sym (drop_more more i x lt)) (e, subst (λ (y : Activity). Comes d y e) here comes, rest)
+
+pub none_comes : (more : List Activity) (i : ℕ) (d : Difference) → length more ≤ i → AllCome d (drop i more) d
+none_comes more i d past = subst (λ (l : List Activity). AllCome d l d) (sym (drop_of_length-le more past)) refl

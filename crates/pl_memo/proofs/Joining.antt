@@ -4,10 +4,13 @@ use Rattle.std.specs.Prelude.{slice_get}
 use Rattle.pl_plan.specs.declared.activity.Activity.{Activity}
 use Rattle.pl_plan.specs.Activities.{RiseFrom}
 
-pub parts : {T : Type 0} (n : ℕ) (xs : List T) → xs ≡ take n xs ++ drop n xs
+parts : {T : Type 0} (n : ℕ) (xs : List T) → xs ≡ take n xs ++ drop n xs
 parts zero xs = refl
 parts (suc n) [] = refl
 parts (suc n) (x ∷ xs) = ap (λ l. x ∷ l) (parts n xs)
+
+pub put_together : {T : Type 0} (n : ℕ) (xs front back : List T) → front ≡ take n xs → back ≡ drop n xs → xs ≡ front ++ back
+put_together n xs front back is is_too = parts n xs ∙ (ap (λ l. l ++ drop n xs) (sym is) ∙ ap (λ l. front ++ l) (sym is_too))
 
 pub rising_take : (c n : ℕ) (xs : List Activity) → RiseFrom c xs → RiseFrom c (take n xs)
 rising_take c zero xs rises = tt

@@ -54,7 +54,10 @@ going_ids xs (id ∷ gone) live = by (activity_of id xs) refl (All-head (λ n. I
 -- it leaves the activities that are left of these
 going_leave : (xs ys : List Activity) (gone : List ℕ) → AreRising ys → AreOnce gone → All (λ id. IsLive id xs) gone → All (λ id. activity_of id ys ≡ activity_of id xs) gone → CanLeave ys (going xs gone)
 going_leave xs ys [] rises once live same = tt
-going_leave xs ys (id ∷ gone) rises once live same = by (activity_of id xs) refl (All-head (λ n. IsLive n xs) id gone live)
+going_leave xs ys (id ∷ gone) rises once live same =
+    by (activity_of id xs) refl (All-head (λ n. IsLive n xs) id gone live)
+    (λ (a : Activity) (is : a.id ≡ id).
+    going_leave xs (without a.id ys) gone (rising-without a.id 0 ys rises) rest_once (All-tail (λ n. IsLive n xs) id gone live) (still a is gone apart (All-tail (λ k. activity_of k ys ≡ activity_of k xs) id gone same)))
   where
     apart : All (λ n. id ≢ n) gone
     apart k d lt = once 0 (suc k) d (omega arith) (omega (arith, lt))
@@ -70,14 +73,12 @@ going_leave xs ys (id ∷ gone) rises once live same = by (activity_of id xs) re
         (found-without b.id 0 ys n rises ∙ (ap (λ (c : Bool). cond c None (activity_of n ys)) other ∙ All-head (λ k. activity_of k ys ≡ activity_of k xs) n ns all))
         (still b is ns (All-tail (λ k. id ≢ k) n ns others) (All-tail (λ k. activity_of k ys ≡ activity_of k xs) n ns all))
 
-    by : (o : Option Activity) → activity_of id xs ≡ o → IsSome o → CanLeave ys (of_found alone (activity_of id xs) ++ going xs gone)
-    by None e some = absurd (cc)
-    by (Some a) e some =
+    by : (o : Option Activity) → activity_of id xs ≡ o → IsSome o → ((a : Activity) → a.id ≡ id → CanLeave (without a.id ys) (going xs gone)) → CanLeave ys (of_found alone (activity_of id xs) ++ going xs gone)
+    by None e some more = absurd (cc)
+    by (Some a) e some more =
         let is : a.id ≡ id = found_id id xs a e in
         let here : activity_of a.id ys ≡ Some a = ap (λ (n : ℕ). activity_of n ys) is ∙ (All-head (λ k. activity_of k ys ≡ activity_of k xs) id gone same ∙ e) in
-        let more : CanLeave (without a.id ys) (going xs gone) =
-        going_leave xs (without a.id ys) gone (rising-without a.id 0 ys rises) rest_once (All-tail (λ n. IsLive n xs) id gone live) (still a is gone apart (All-tail (λ k. activity_of k ys ≡ activity_of k xs) id gone same)) in
-        subst (λ (o : Option Activity). CanLeave ys (of_found alone o ++ going xs gone)) (sym e) (here, more)
+        subst (λ (o : Option Activity). CanLeave ys (of_found alone o ++ going xs gone)) (sym e) (here, more a is)
 
 all_same : (xs : List Activity) (ns : List ℕ) → All (λ n. activity_of n xs ≡ activity_of n xs) ns
 all_same xs [] = All-nil (λ n. activity_of n xs ≡ activity_of n xs)

@@ -89,10 +89,12 @@ fn renamed_move(since: &Difference, mv: &RepairMove) -> RepairMove
     }
 }
 
-fn is_same_move(mv: &RepairMove, other: &RepairMove) -> bool
-    ensures { IsTrue result → mv.now ≡ other.now }
+// Whether the other move is this one with the ids that stand for its own.
+fn is_renamed(since: &Difference, mv: &RepairMove, other: &RepairMove) -> bool
+    requires { length since.now.gone ≡ length since.now.placed }
+    ensures { IsTrue result → renamed_move since.now mv.now ≡ other.now }
 {
-    *mv == *other
+    renamed_move(since, mv) == *other
 }
 
 /// Whether the others are the moves with the ids that stand for their own.
@@ -102,7 +104,7 @@ pub(crate) fn are_renamed(since: &Difference, moves: &[RepairMove], others: &[Re
     ensures { IsTrue result → map (renamed_move since.now) moves.now ≡ others.now }
 {
     for (place, mv) in moves.iter().enumerate() {
-        if !is_same_move(&renamed_move(since, mv), &others[place]) {
+        if !is_renamed(since, mv, &others[place]) {
             return false;
         }
     }

@@ -1,7 +1,6 @@
 -- Activities, their places in trees and what is found of them, under new ids.
 use Rattle.std.proofs.Common.{◌≡◌, ℕ, zero, suc, ◌≤◌, eqb, Bool, true, false, cond, List, [], ◌∷◌, Option, Some, None, refl, sym, ap, ◌∙◌, arith}
-use Rattle.std.specs.Prelude.{◌&&◌, ◌||◌, not, map, filter, find, option_and_then, unwrap_or}
-use Rattle.std.specs.List.{list_any}
+use Rattle.std.specs.Prelude.{◌&&◌, ◌||◌, not, find, option_and_then, unwrap_or}
 use Rattle.std.specs.Option.{option_map}
 use Rattle.pl_model.specs.Choices.{is_slot}
 use Rattle.pl_plan.specs.declared.activity.Activity.{Activity}

@@ -1,26 +1,22 @@
 -- States of one normal form: as many conflicts stand in them, and a move leaves as many.
-use Rattle.std.proofs.Common.{◌≡◌, ℕ, ◌+◌, Bool, true, List, length, Option, Some, None, IfSome, refl, sym, ap, ◌∙◌, subst}
-use Rattle.std.specs.Prelude.{IsSome, is_some}
-use Rattle.std.specs.Option.{option_map, is_none}
+use Rattle.std.proofs.Common.{◌≡◌, ℕ, ◌+◌, Bool, true, List, length, Option, Some, None, refl, sym, ap, ◌∙◌, subst}
+use Rattle.std.specs.Prelude.{is_some}
 use Rattle.pl_plan.specs.declared.activity.Activity.{Activity}
 use Rattle.pl_plan.specs.declared.repair.RepairMove.{RepairMove}
 use Rattle.pl_plan.specs.declared.repair.RepairMove.TheVariants.{Add, Delete, Shift, Detail, Abstract, Assign, Drop}
-use Rattle.pl_plan.specs.Activities.{activity_of, AreRising}
 use Rattle.pl_plan.specs.Trees.{IsRooted}
 use Rattle.pl_semantics.specs.declared.plan_state.PlanState.{PlanState}
-use Rattle.pl_semantics.specs.declared.refusal.Refusal.{Refusal}
 use Rattle.pl_semantics.specs.PlanStates.{found}
 use Rattle.pl_semantics.specs.Conflicts.{conflicts_of}
-use Rattle.pl_semantics.specs.Moves.{holds, is_proper, refusal_of, applied}
-use Rattle.pl_semantics.specs.Legal.{is_legal, left_after}
+use Rattle.pl_semantics.specs.Moves.{holds, is_proper, applied}
+use Rattle.pl_semantics.specs.Legal.{left_after}
 use Rattle.pl_semantics.specs.Whole.{IsWhole}
-use Rattle.pl_renumbering.specs.Renumbered.{KeepsOrder, AgreesAhead, IsRenumbered, renumbered_all, renumbered_state, renumbered_move}
-use Rattle.pl_renumbering.specs.Normal.{rank, normal_of, normal_move, AreAlike, id_from, id_at}
+use Rattle.pl_renumbering.specs.Renumbered.{KeepsOrder, AgreesAhead, IsRenumbered, renumbered_all, renumbered_move}
+use Rattle.pl_renumbering.specs.Normal.{rank, normal_of, normal_move, AreAlike, id_at}
 use Rattle.pl_renumbering.proofs.Ranks.{ids_rise, ids_ahead, rank_back, all_back}
 use Rattle.pl_renumbering.proofs.Rooted.{rooted_before}
 use Rattle.pl_renumbering.proofs.Trees.{rooted_after}
 use Rattle.pl_renumbering.proofs.Conflicts.{is_image, as_many_conflicts}
-use Rattle.pl_renumbering.proofs.Proper.{legal_same}
 use Rattle.pl_renumbering.proofs.Renumbering.{of_image, proper_too, applied_too, left_too}
 
 module _ (s : PlanState) (whole : IsWhole s) where

@@ -1,6 +1,6 @@
 -- What a move makes of a plan, under new ids.
 use Rattle.std.proofs.Common.{◌≡◌, ℕ, suc, ◌+◌, eqb, Bool, true, false, cond, List, [], ◌∷◌, ◌++◌, length, Option, Some, None, refl, sym, ap, ◌∙◌, arith}
-use Rattle.std.specs.Prelude.{ℤ, map}
+use Rattle.std.specs.Prelude.{map}
 use Rattle.std.specs.Option.{option_map}
 use Rattle.std.proofs.lemmas.List.{map-append}
 use Rattle.pl_plan.specs.declared.activity.Activity.{Activity}
@@ -11,7 +11,7 @@ use Rattle.pl_plan.specs.Moves.{without_below, abstracted}
 use Rattle.pl_semantics.specs.declared.plan_state.PlanState.{PlanState}
 use Rattle.pl_semantics.specs.PlanStates.{found}
 use Rattle.pl_semantics.specs.Conflicts.{conflicts_of}
-use Rattle.pl_semantics.specs.Moves.{is_under, root_for, children_for, moved, changed_where, detailed, with_value, shifted, has_id, count_of_new, applied}
+use Rattle.pl_semantics.specs.Moves.{is_under, root_for, moved, changed_where, detailed, with_value, shifted, has_id, count_of_new, applied}
 use Rattle.pl_semantics.specs.Legal.{left_after}
 use Rattle.pl_renumbering.specs.Renumbered.{KeepsOrder, AgreesAhead, renumbered, renumbered_all, renumbered_state, renumbered_move}
 use Rattle.pl_renumbering.proofs.Lists.{map_mapped, both_mapped}

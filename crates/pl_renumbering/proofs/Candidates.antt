@@ -16,7 +16,6 @@ use Rattle.pl_semantics.specs.PlanStates.{found, goal_at, of_found}
 use Rattle.pl_semantics.specs.Starts.{moves_of}
 use Rattle.pl_semantics.specs.Repairs.{for_goal, for_unset, for_bad_value, for_undetailed, for_overrun, for_temporal, for_linked}
 use Rattle.pl_semantics.specs.LineRepairs.{for_must, for_bad_step}
-use Rattle.pl_semantics.specs.Activities.{value_in}
 use Rattle.std.specs.Prelude.{slice_index_or}
 use Rattle.pl_semantics.specs.Moves.{is_proper}
 use Rattle.pl_semantics.specs.Candidates.{tried_for, has_start, is_value, has_value, changes_nothing, is_worth, same_move, once_from, candidates_of}

@@ -1,5 +1,5 @@
 -- What a move changes, places and shifts, under new ids.
-use Rattle.std.proofs.Common.{◌≡◌, ℕ, suc, ◌+◌, eqb, Bool, true, false, cond, List, [], ◌∷◌, ◌++◌, length, Option, Some, None, refl, sym, ap, ◌∙◌, arith}
+use Rattle.std.proofs.Common.{◌≡◌, ℕ, suc, ◌+◌, List, [], ◌∷◌, length, Option, Some, None, refl, sym, ap, ◌∙◌, arith}
 use Rattle.std.specs.Prelude.{◌&&◌, map, filter, slice_get}
 use Rattle.std.specs.Option.{option_map}
 use Rattle.pl_model.specs.declared.alternatives.Slot.{Slot}

@@ -1,7 +1,6 @@
 -- All conflicts of a plan, under new ids.
-use Rattle.std.proofs.Common.{◌≡◌, ℕ, length, refl, sym, ap, ◌∙◌}
+use Rattle.std.proofs.Common.{◌≡◌, ℕ, length, refl, ap, ◌∙◌}
 use Rattle.std.specs.Prelude.{map}
-use Rattle.pl_conflict.specs.declared.conflict.Conflict.{Conflict}
 use Rattle.pl_conflict.specs.Sorting.{sorted}
 use Rattle.pl_plan.specs.Trees.{IsRooted}
 use Rattle.pl_semantics.specs.declared.plan_state.PlanState.{PlanState}

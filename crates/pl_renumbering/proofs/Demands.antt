@@ -1,18 +1,15 @@
 -- What firm activities ask of timelines, under new ids.
-use Rattle.std.proofs.Common.{◌≡◌, ℕ, eqb, Bool, true, false, cond, List, [], ◌∷◌, Option, refl, ap, ◌∙◌}
+use Rattle.std.proofs.Common.{◌≡◌, ℕ, eqb, Bool, true, false, cond, List, [], Option, refl, ap, ◌∙◌}
 use Rattle.std.specs.Prelude.{ℤ, ◌+ℤ◌, map}
 use Rattle.std.specs.List.{flat_map}
 use Rattle.pl_model.specs.declared.reservations.Reservation.{Reservation}
 use Rattle.pl_model.specs.declared.reservations.Reservation.TheVariants as reservation
 use Rattle.pl_plan.specs.declared.activity.Activity.{Activity}
 use Rattle.pl_plan.specs.Trees.{IsRooted}
-use Rattle.pl_plan.specs.Values.{Row}
 use Rattle.pl_plan.specs.Firm.{amount_with}
 use Rattle.pl_points.specs.Sums.{total}
 use Rattle.pl_capacity.specs.Uses.{used}
 use Rattle.pl_level.specs.Effects.{counted}
-use Rattle.pl_state.specs.declared.reservation.Setting.{Setting}
-use Rattle.pl_state.specs.declared.reservation.Must.{Must}
 use Rattle.pl_semantics.specs.declared.plan_state.PlanState.{PlanState}
 use Rattle.pl_semantics.specs.declared.demand.Demand.{Demand}
 use Rattle.pl_semantics.specs.declared.demand.Asked.{Asked}

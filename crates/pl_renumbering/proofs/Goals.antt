@@ -1,7 +1,6 @@
 -- What is wrong with goals and with their roots, under new ids.
 use Rattle.std.proofs.Common.{◌≡◌, ℕ, ltb, refl, ap, ◌∙◌}
 use Rattle.std.specs.Prelude.{nat_le, ◌&&◌, ◌||◌, map}
-use Rattle.pl_conflict.specs.declared.conflict.Conflict.{Conflict}
 use Rattle.pl_facts.specs.declared.goal.Goal.{Goal}
 use Rattle.pl_plan.specs.declared.activity.Activity.{Activity}
 use Rattle.pl_semantics.specs.declared.plan_state.PlanState.{PlanState}

@@ -1,5 +1,5 @@
 -- Legal candidates, and which conflicts have some, under new ids.
-use Rattle.std.proofs.Common.{◌≡◌, ℕ, Bool, List, refl, ap, ◌∙◌}
+use Rattle.std.proofs.Common.{◌≡◌, ℕ, ap, ◌∙◌}
 use Rattle.std.specs.Prelude.{not, map, filter}
 use Rattle.std.specs.List.{list_any}
 use Rattle.pl_conflict.specs.declared.conflict.Conflict.{Conflict}

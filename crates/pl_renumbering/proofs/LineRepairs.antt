@@ -1,6 +1,6 @@
 -- The moves that are tried for what is wrong with timelines, under new ids.
-use Rattle.std.proofs.Common.{◌≡◌, ℕ, eqb, Bool, false, List, [], ◌∷◌, ◌++◌, Option, Some, None, refl, ap, ◌∙◌}
-use Rattle.std.specs.Prelude.{◌&&◌, not, pos, map, filter, take, slice_get}
+use Rattle.std.proofs.Common.{◌≡◌, ℕ, eqb, Bool, false, refl, ap, ◌∙◌}
+use Rattle.std.specs.Prelude.{◌&&◌, not, pos, map, filter, take}
 use Rattle.std.specs.List.{list_any, flat_map}
 use Rattle.pl_lists.proofs.Elements.{any_agree}
 use Rattle.pl_model.specs.declared.reservations.Point.{Point}
@@ -10,14 +10,12 @@ use Rattle.pl_plan.specs.declared.activity.Activity.{Activity}
 use Rattle.pl_plan.specs.declared.repair.RepairMove.{RepairMove}
 use Rattle.pl_plan.specs.Trees.{IsRooted}
 use Rattle.pl_plan.specs.Fitting.{kind_of}
-use Rattle.pl_links.specs.Broken.{moment_of}
 use Rattle.pl_semantics.specs.declared.plan_state.PlanState.{PlanState}
 use Rattle.pl_semantics.specs.declared.demand.Demand.{Demand}
 use Rattle.pl_semantics.specs.declared.demand.Asked.{Asked}
 use Rattle.pl_semantics.specs.declared.demand.Asked.TheVariants as asked
-use Rattle.pl_semantics.specs.PlanStates.{is_committed, reservations_in, of_found}
+use Rattle.pl_semantics.specs.PlanStates.{is_committed, reservations_in}
 use Rattle.pl_semantics.specs.Demands.{demands_at}
-use Rattle.pl_semantics.specs.Links.{placed_of}
 use Rattle.pl_semantics.specs.Moves.{holds}
 use Rattle.pl_semantics.specs.Starts.{moves_of, helpers}
 use Rattle.pl_semantics.specs.LineRepairs.{raises, lowers, sets_state, sets_any, first_eight, is_used_in, takes_in, users_of, around, for_over, counts_below, point_counts, lowers_below, raises_below, for_low, for_high, help_must, help_step, reservation_at, for_must, for_bad_step}

@@ -1,18 +1,15 @@
 -- Conflicts of links and of orders of slots, under new ids.
-use Rattle.std.proofs.Common.{◌≡◌, ℕ, Bool, true, false, List, Option, Some, None, refl, ap, ◌∙◌}
-use Rattle.std.specs.Prelude.{◌||◌, map, find}
+use Rattle.std.proofs.Common.{◌≡◌, ℕ, Bool, true, false, Option, Some, None, refl, ap, ◌∙◌}
+use Rattle.std.specs.Prelude.{◌||◌, map}
 use Rattle.std.specs.Option.{option_map}
 use Rattle.std.specs.List.{flat_map}
 use Rattle.pl_conflict.specs.declared.conflict.Conflict.{Conflict}
 use Rattle.pl_model.specs.declared.alternatives.Order.{Order}
 use Rattle.pl_plan.specs.declared.activity.Activity.{Activity}
-use Rattle.pl_plan.specs.Fitting.{fills}
 use Rattle.pl_plan.specs.Trees.{IsRooted}
-use Rattle.pl_links.specs.declared.placed.Placed.{Placed}
-use Rattle.pl_links.specs.declared.broken.Broken.{Broken}
 use Rattle.pl_links.specs.Broken.{broken_by}
 use Rattle.pl_semantics.specs.declared.plan_state.PlanState.{PlanState}
-use Rattle.pl_semantics.specs.PlanStates.{is_ahead, of_found}
+use Rattle.pl_semantics.specs.PlanStates.{is_ahead}
 use Rattle.pl_semantics.specs.Links.{placed_of, placed_in, lone, place_in, order_at, unmet_from, unmet_order, link_conflict, conflict_of, links_at, link_conflicts}
 use Rattle.pl_renumbering.specs.Renumbered.{KeepsOrder, renumbered, renumbered_state, renumbered_conflict}
 use Rattle.pl_renumbering.specs.Carried.{renumbered_placed, renumbered_broken}

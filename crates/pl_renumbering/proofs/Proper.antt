@@ -2,7 +2,6 @@
 use Rattle.std.proofs.Common.{◌≡◌, ℕ, ◌+◌, ltb, eqb, Bool, true, false, List, length, Option, Some, None, refl, ap, ◌∙◌}
 use Rattle.std.specs.Prelude.{◌&&◌, not, ℤ, map, find, slice_get, is_none, is_some}
 use Rattle.std.specs.Option.{option_map}
-use Rattle.pl_facts.specs.declared.goal.Goal.{Goal}
 use Rattle.pl_model.specs.Checked.{params_of}
 use Rattle.pl_plan.specs.declared.activity.Activity.{Activity}
 use Rattle.pl_plan.specs.declared.repair.RepairMove.{RepairMove}
@@ -12,9 +11,9 @@ use Rattle.pl_plan.specs.Fitting.{kind_of}
 use Rattle.pl_plan.specs.Firm.{is_within}
 use Rattle.pl_semantics.specs.declared.plan_state.PlanState.{PlanState}
 use Rattle.pl_semantics.specs.declared.refusal.Refusal.{Refusal}
-use Rattle.pl_semantics.specs.declared.refusal.Refusal.TheVariants.{Locked, Behind, Beyond, Full}
-use Rattle.pl_semantics.specs.PlanStates.{found, goal_at, is_open}
-use Rattle.pl_semantics.specs.Moves.{is_free, holds, is_wanted, alternatives_at, takes_value, is_proper, is_locked, is_behind, is_beyond, is_full, first_refused, or_else, full_if, refusal_of, started_by, count_of_new}
+use Rattle.pl_semantics.specs.declared.refusal.Refusal.TheVariants.{Locked, Behind, Beyond}
+use Rattle.pl_semantics.specs.PlanStates.{found, goal_at}
+use Rattle.pl_semantics.specs.Moves.{is_free, holds, is_wanted, alternatives_at, takes_value, is_proper, is_behind, is_beyond, is_full, first_refused, or_else, full_if, refusal_of, started_by, count_of_new}
 use Rattle.pl_semantics.specs.Legal.{is_legal}
 use Rattle.pl_renumbering.specs.Renumbered.{KeepsOrder, AgreesAhead, renumbered_place, renumbered, renumbered_state, renumbered_move, renumbered_refusal}
 use Rattle.pl_renumbering.proofs.Lists.{find_mapped, length-mapped}

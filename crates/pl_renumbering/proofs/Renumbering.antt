@@ -1,5 +1,5 @@
 -- Moves on two states of which one is the other under new ids.
-use Rattle.std.proofs.Common.{◌≡◌, ℕ, Option, refl, sym, ap, ◌∙◌, subst}
+use Rattle.std.proofs.Common.{◌≡◌, ℕ, sym, ap, ◌∙◌, subst}
 use Rattle.std.specs.Option.{option_map}
 use Rattle.std.specs.Prelude.{map}
 use Rattle.pl_conflict.specs.declared.conflict.Conflict.{Conflict}

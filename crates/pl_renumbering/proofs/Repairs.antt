@@ -1,5 +1,5 @@
 -- The moves that are tried for what is wrong with goals, activities and links, under new ids.
-use Rattle.std.proofs.Common.{◌≡◌, ℕ, eqb, Bool, true, false, cond, List, [], ◌∷◌, ◌++◌, Option, Some, None, refl, ap, ◌∙◌}
+use Rattle.std.proofs.Common.{◌≡◌, ℕ, eqb, Bool, true, false, cond, List, [], ◌∷◌, Option, Some, None, refl, ap, ◌∙◌}
 use Rattle.std.specs.Prelude.{ℤ, pos, ◌+ℤ◌, ◌-ℤ◌, map, filter, slice_get, option_and_then}
 use Rattle.std.specs.Int.{int_min, int_max}
 use Rattle.std.specs.Option.{option_map}
@@ -19,7 +19,7 @@ use Rattle.pl_semantics.specs.PlanStates.{found, end_at, numbered, of_found}
 use Rattle.pl_semantics.specs.Activities.{params_at, bindings_of}
 use Rattle.pl_semantics.specs.Links.{placed_of, order_at, place_in}
 use Rattle.pl_semantics.specs.Moves.{is_free, alternatives_at}
-use Rattle.pl_semantics.specs.Starts.{spread, starting, floor_at, last_of, shift_to, delete_root, moves_of}
+use Rattle.pl_semantics.specs.Starts.{spread, starting, floor_at, last_of, shift_to}
 use Rattle.pl_semantics.specs.Repairs.{for_goal, assigns, assigns_one, for_unset, all_assigns, parent_at, for_bad_value, for_undetailed, end_by, for_overrun, partner_start, least_of, kind_at, partners_at, partners_for, for_temporal, shift_one, order_shifts, shifts_apart, shifts_between, for_order, for_linked}
 use Rattle.pl_renumbering.specs.Renumbered.{KeepsOrder, renumbered_place, renumbered, renumbered_state, renumbered_move}
 use Rattle.pl_renumbering.proofs.Lists.{map_along, flat_along, both_mapped}

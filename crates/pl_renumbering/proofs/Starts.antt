@@ -1,5 +1,5 @@
 -- The moves of starts that are tried, under new ids.
-use Rattle.std.proofs.Common.{◌≡◌, ℕ, leb, ltb, Bool, true, false, cond, List, [], ◌∷◌, ◌++◌, Option, Some, None, refl, ap, ◌∙◌}
+use Rattle.std.proofs.Common.{◌≡◌, ℕ, leb, ltb, Bool, true, false, cond, List, [], ◌∷◌, Option, Some, None, refl, ap, ◌∙◌}
 use Rattle.std.specs.Prelude.{◌&&◌, ℤ, pos, negsuc, map}
 use Rattle.std.specs.Int.{int_min, int_max}
 use Rattle.std.specs.Option.{option_map}
@@ -7,12 +7,12 @@ use Rattle.std.specs.List.{flat_map}
 use Rattle.pl_model.specs.declared.kinds.Kind.{Kind}
 use Rattle.pl_plan.specs.declared.activity.Activity.{Activity}
 use Rattle.pl_plan.specs.declared.repair.RepairMove.{RepairMove}
-use Rattle.pl_plan.specs.declared.repair.RepairMove.TheVariants.{Add, Delete, Shift}
+use Rattle.pl_plan.specs.declared.repair.RepairMove.TheVariants.{Add, Delete}
 use Rattle.pl_plan.specs.Trees.{IsRooted, root_of}
 use Rattle.pl_semantics.specs.declared.plan_state.PlanState.{PlanState}
 use Rattle.pl_semantics.specs.PlanStates.{found, of_found}
 use Rattle.pl_semantics.specs.Starts.{spread, starting, floor_at, last_of, window_of, places_of, shift_to, shifts_of, above_it, delete_root, moves_of, adds_of, help_until}
-use Rattle.pl_renumbering.specs.Renumbered.{KeepsOrder, renumbered_place, renumbered, renumbered_state, renumbered_move}
+use Rattle.pl_renumbering.specs.Renumbered.{KeepsOrder, renumbered, renumbered_state, renumbered_move}
 use Rattle.pl_renumbering.proofs.Lists.{flat_along, both_mapped}
 use Rattle.pl_renumbering.proofs.Pieces.{of_found_mapped}
 use Rattle.pl_renumbering.proofs.Activities.{root_renumbered}

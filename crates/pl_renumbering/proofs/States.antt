@@ -1,6 +1,6 @@
 -- Sets and musts of a state, and what is wrong with them, under new ids.
-use Rattle.std.proofs.Common.{◌≡◌, ℕ, ◌-◌, eqb, ltb, leb, Bool, true, false, cond, List, [], ◌∷◌, ◌++◌, refl, ap, ◌∙◌}
-use Rattle.std.specs.Prelude.{◌&&◌, ◌||◌, not, map, max, min}
+use Rattle.std.proofs.Common.{◌≡◌, ℕ, ◌-◌, eqb, ltb, leb, Bool, true, false, cond, List, [], ◌∷◌, refl, ap, ◌∙◌}
+use Rattle.std.specs.Prelude.{◌&&◌, not, map, max, min}
 use Rattle.std.specs.List.{fold, flat_map}
 use Rattle.pl_points.specs.declared.span.Span.{Span}
 use Rattle.pl_points.specs.Spans.{spans_of}
@@ -8,8 +8,6 @@ use Rattle.pl_points.proofs.Maximal.{local}
 use Rattle.pl_lists.specs.Lists.{front, back}
 use Rattle.pl_state.specs.declared.reservation.Setting.{Setting}
 use Rattle.pl_state.specs.declared.reservation.Must.{Must}
-use Rattle.pl_state.specs.declared.answer.BadSet.{BadSet}
-use Rattle.pl_state.specs.declared.answer.BrokenMust.{BrokenMust}
 use Rattle.pl_state.specs.Sets.{set_before, with_set, state_from, bad_set, is_counted, bad_from}
 use Rattle.pl_state.specs.Musts.{must_before, with_must, broken_in, broken_spans, broken_one, broken_all}
 use Rattle.pl_semantics.specs.declared.demand.Demand.{Demand}

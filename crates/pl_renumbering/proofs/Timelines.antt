@@ -1,12 +1,11 @@
 -- Conflicts of timelines, under new ids.
-use Rattle.std.proofs.Common.{◌≡◌, ℕ, ◌-◌, Bool, List, [], ◌∷◌, Option, Some, None, refl, sym, ap, ◌∙◌}
+use Rattle.std.proofs.Common.{◌≡◌, ℕ, ◌-◌, Bool, List, [], ◌∷◌, Option, Some, None, refl, ap, ◌∙◌}
 use Rattle.std.specs.Prelude.{ℤ, int_lt, map}
 use Rattle.std.specs.Option.{option_map}
 use Rattle.pl_conflict.specs.declared.conflict.Conflict.{Conflict}
 use Rattle.pl_conflict.specs.declared.conflict.Code.TheVariants as code
 use Rattle.pl_model.specs.declared.timelines.Timeline.{Timeline}
 use Rattle.pl_model.specs.declared.timelines.Timeline.TheVariants.{Capacity, Level, States}
-use Rattle.pl_points.specs.declared.span.Span.{Span}
 use Rattle.pl_points.proofs.Maximal.{local}
 use Rattle.pl_state.specs.declared.answer.BrokenMust.{BrokenMust}
 use Rattle.pl_state.specs.declared.answer.BadSet.{BadSet}
@@ -19,7 +18,7 @@ use Rattle.pl_semantics.specs.PlanStates.{found, natural}
 use Rattle.pl_semantics.specs.Demands.{demands_of, sets_of, musts_of, since, told, state_at, use_at, level_at}
 use Rattle.pl_semantics.specs.Timelines.{spans_ahead, outside, overs, lows, highs, start_in, start_at, unmet_must, musts, bad_step, bad_steps, line_conflicts, lines_of, timeline_conflicts}
 use Rattle.pl_renumbering.specs.Renumbered.{KeepsOrder, renumbered, renumbered_state, renumbered_conflict}
-use Rattle.pl_renumbering.specs.Carried.{renumbered_broken_must, renumbered_bad_set, renumbered_setting, renumbered_must}
+use Rattle.pl_renumbering.specs.Carried.{renumbered_broken_must, renumbered_bad_set, renumbered_setting}
 use Rattle.pl_renumbering.proofs.Lists.{map_mapped, flat_along, both_mapped}
 use Rattle.pl_renumbering.proofs.Comings.{found_same}
 use Rattle.pl_renumbering.proofs.Demands.{demands_along, use_same, level_same}

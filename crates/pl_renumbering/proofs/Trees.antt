@@ -1,6 +1,6 @@
 -- After a move each parent is live, and has a smaller id.
-use Rattle.std.proofs.Common.{◌≡◌, ℕ, suc, ◌+◌, ◌<◌, ◌≤◌, eqb, Bool, true, false, cond, List, [], ◌∷◌, ◌++◌, Option, Some, None, IfSome, refl, sym, ap, subst, arith}
-use Rattle.std.specs.Prelude.{ℤ, All, IsSome, is_some, map, slice_get}
+use Rattle.std.proofs.Common.{◌≡◌, ℕ, suc, ◌<◌, eqb, Bool, true, false, cond, List, [], ◌∷◌, ◌++◌, Option, Some, None, IfSome, refl, sym, subst, arith}
+use Rattle.std.specs.Prelude.{All, IsSome, map, slice_get}
 use Rattle.std.specs.Option.{option_map}
 use Rattle.std.proofs.lemmas.List.Elements.{All-nil, All-cons, All-head, All-tail, All-append, All-weaker}
 use Rattle.pl_model.specs.declared.alternatives.Slot.{Slot}
@@ -16,7 +16,7 @@ use Rattle.pl_plan.proofs.Kept.{found-changed}
 use Rattle.pl_plan.proofs.MoveLaws.{rooted_outside, fits_abstracted}
 use Rattle.pl_semantics.specs.declared.plan_state.PlanState.{PlanState}
 use Rattle.pl_semantics.specs.PlanStates.{found}
-use Rattle.pl_semantics.specs.Moves.{is_under, root_for, children_from, children_in, children_for, alternatives_at, moved, changed_where, detailed, with_value, shifted, has_id, applied}
+use Rattle.pl_semantics.specs.Moves.{is_under, root_for, children_from, children_in, children_for, alternatives_at, moved, detailed, with_value, shifted, has_id, applied}
 use Rattle.pl_semantics.specs.Whole.{IsIdBelow, IsWhole}
 
 -- ---- changes that leave ids and parents

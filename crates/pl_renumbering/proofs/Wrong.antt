@@ -1,5 +1,5 @@
 -- What is wrong with activities by themselves, under new ids.
-use Rattle.std.proofs.Common.{◌≡◌, ℕ, ◌+◌, ltb, leb, eqb, List, ◌++◌, length, refl, ap, ◌∙◌}
+use Rattle.std.proofs.Common.{◌≡◌, ℕ, ◌+◌, ltb, leb, eqb, length, refl, ap, ◌∙◌}
 use Rattle.std.specs.Prelude.{◌&&◌, not, map, is_none}
 use Rattle.pl_conflict.specs.declared.conflict.Conflict.{Conflict}
 use Rattle.pl_conflict.specs.declared.conflict.Code.TheVariants.{Late, Unset, BadValue, Undetailed, Overrun}
@@ -9,11 +9,10 @@ use Rattle.pl_model.specs.declared.kinds.Kind.{Kind}
 use Rattle.pl_plan.specs.declared.activity.Activity.{Activity}
 use Rattle.pl_plan.specs.Trees.{IsRooted}
 use Rattle.pl_plan.specs.Fitting.{kind_of, alternatives_of}
-use Rattle.pl_plan.specs.Values.{binding_of}
-use Rattle.pl_plan.specs.Known.{is_unset, is_bad_param, is_bad_duration, is_bad_amount}
+use Rattle.pl_plan.specs.Known.{is_bad_duration, is_bad_amount}
 use Rattle.pl_semantics.specs.declared.plan_state.PlanState.{PlanState}
-use Rattle.pl_semantics.specs.PlanStates.{is_committed, row_of, end_at, reservations_of, of_found}
-use Rattle.pl_semantics.specs.Activities.{at_start, late_at, bindings_of, params_at, value_in, unset_one, unset_at, row_above, bad_param, bad_duration, bad_amount, bad_values_at, undetailed_at, past_end, overrun_at, wrong_at, activity_conflicts}
+use Rattle.pl_semantics.specs.PlanStates.{is_committed, end_at, reservations_of, of_found}
+use Rattle.pl_semantics.specs.Activities.{at_start, late_at, params_at, unset_one, unset_at, bad_param, bad_duration, bad_amount, bad_values_at, undetailed_at, past_end, overrun_at, wrong_at, activity_conflicts}
 use Rattle.pl_renumbering.specs.Renumbered.{KeepsOrder, renumbered, renumbered_state, renumbered_conflict}
 use Rattle.pl_renumbering.proofs.Lists.{flat_mapped, flat_along, both_mapped}
 use Rattle.pl_renumbering.proofs.Pieces.{when_along, planned_along, of_found_along}

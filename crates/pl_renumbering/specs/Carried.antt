@@ -1,5 +1,5 @@
 -- What carries ids of activities, under new ids: placed activities and what they break, demands of states and what is wrong there.
-use Rattle.std.specs.Prelude.{ℕ, List, map}
+use Rattle.std.specs.Prelude.{ℕ}
 use Rattle.pl_links.specs.declared.placed.Placed.{Placed}
 use Rattle.pl_links.specs.declared.broken.Broken.{Broken}
 use Rattle.pl_state.specs.declared.reservation.Setting.{Setting}

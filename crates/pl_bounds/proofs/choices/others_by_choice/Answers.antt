@@ -35,6 +35,6 @@ returns-clause-least c =
     let m : RepairMove = Detail c.args.root.now.id c.args.alternative in
     let t : PlanState = with_plan (gone_by s m) (placed_by s m) s in
     let whole : IsWhole s = subst (λ (u : PlanState). IsWhole u) c.state-state.ensures.value (c.state-state.ensures.whole c.requires.unspoiled) in
-    let marks : AreMarks t c.as_slice-2.result.now = subst (λ (l : List Mark). AreMarks t l) (sym c.as_slice-2.ensures.value) (c.in_ok-add_breaches.ensures c.in_ok-marks.ensures (gone_by s m) (placed_by s m) c.requires.asked.exchange) in
+    let marks : AreMarks t c.as_slice-2.result.now = subst (λ (l : List Mark). AreMarks t l) (sym c.as_slice-2.ensures.value) (c.in_ok-add_broken_musts.ensures c.in_ok-marks.ensures (gone_by s m) (placed_by s m) c.requires.asked.exchange) in
     let some : c.count_of_marks.result ≤ count_of_states t = c.count_of_marks.ensures t marks in
     with_times s whole c.requires.next m tt c.requires.allowed c.times_by_choice.new.past.items c.in_ok-times.ensures.of_plan c.in_ok-times.ensures.different c.count_of_marks.result c.in_ok-times.times c.saturating_add.result some c.in_ok-times.ensures.least (omega (arith, c.saturating_add.ensures))

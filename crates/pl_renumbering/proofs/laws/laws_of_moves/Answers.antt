@@ -1,4 +1,3 @@
-use Rattle.std.proofs.Common.{sym, ap, ◌∙◌}
 use Rattle.pl_renumbering.proofs.Renumbering.{proper_too, refusal_too, applied_too, ahead_too, left_too}
 use Rattle.pl_renumbering.proofs.laws.laws_of_moves.Goals as goal
 

@@ -10,7 +10,7 @@ use std::alloc::{AllocError, Global};
 
 impl Outside {
     // Whether no further looks are needed for this amount. Of a capacity none ever are: it is looked at where a use begins.
-    fn is_wide_enough(&self, amount: i64) -> bool {
+    fn has_looked_for(&self, amount: i64) -> bool {
         self.side == Side::Over || self.amounts.contains(&amount)
     }
 
@@ -31,14 +31,14 @@ impl Outside {
     }
 
     // The same, once for each amount.
-    fn widen(&mut self, alloc: Global, board: &Board, amount: i64) -> Result<(), AllocError>
+    fn look_once_for(&mut self, alloc: Global, board: &Board, amount: i64) -> Result<(), AllocError>
         requires unspoiled { board.now.spoiled ≡ false }
         requires of_plan { IsOutsideOf board.now.state self.old }
         ensures of_plan { OnOk result (IsOutsideOf board.now.state self.new) }
         ensures line { OnOk result (self.new.line ≡ self.old.line) }
         ensures side { OnOk result (self.new.side ≡ self.old.side) }
     {
-        if self.is_wide_enough(amount) {
+        if self.has_looked_for(amount) {
             return Ok(());
         }
         self.look_for(alloc, board, amount)?;
@@ -60,7 +60,7 @@ pub(crate) fn place_of(all: &[Outside], side: Side, line: u32) -> Option<usize>
     None
 }
 
-fn widen_one(
+fn look_at_one(
     alloc: Global,
     board: &Board,
     place: usize,
@@ -74,12 +74,12 @@ fn widen_one(
     ensures of_plan { OnOk result (All (IsOutsideOf board.now.state) all.new.items) }
     ensures different { OnOk result (AreDifferent all.new.items) }
 {
-    all[place].widen(alloc, board, amount)?;
+    all[place].look_once_for(alloc, board, amount)?;
     Ok(())
 }
 
 /// Adds further looks for this amount, if this side of the timeline is among those that are looked at.
-pub(crate) fn widen_at(
+pub(crate) fn look_further(
     alloc: Global,
     board: &Board,
     side: Side,
@@ -94,7 +94,7 @@ pub(crate) fn widen_at(
     ensures different { OnOk result (AreDifferent all.new.items) }
 {
     match place_of(all.as_slice(), side, line) {
-        Some(place) => widen_one(alloc, board, place, amount, all),
+        Some(place) => look_at_one(alloc, board, place, amount, all),
         None => Ok(()),
     }
 }

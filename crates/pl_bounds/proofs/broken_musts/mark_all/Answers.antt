@@ -1,6 +1,6 @@
 use Rattle.std.proofs.Common.{arith}
 use Rattle.pl_bounds.proofs.Having.{has_same}
-use Rattle.pl_bounds.proofs.breaches.mark_all.Goals as goal
+use Rattle.pl_bounds.proofs.broken_musts.mark_all.Goals as goal
 
 pub musts_at-requires-clause-states : goal.musts_at-requires-clause-states
 musts_at-requires-clause-states c = λ _. c.requires.new.states

@@ -152,7 +152,7 @@ fn mark_by(
 }
 
 /// Marks states that other activities need and that sets which come change.
-pub(crate) fn add_breaches(
+pub(crate) fn add_broken_musts(
     board: &Board,
     asking: &Asking,
     marks: &mut Vec<Mark>,

@@ -2,8 +2,8 @@
 ghost use Rattle.std.specs.Prelude.{◌≡◌, false, All, OnOk};
 ghost use Rattle.pl_bounds.specs.Sides.{IsOutsideOf, AreDifferent};
 
+use crate::further_looks::look_further;
 use crate::outside::{Outside, Side, add};
-use crate::widening::widen_at;
 use pl_board::Board;
 use pl_semantics::{Asked, Demand};
 use std::alloc::{AllocError, Global};
@@ -19,7 +19,7 @@ fn further(amount: i64) -> Side {
 }
 
 // Looks at a level for this amount: at the limit that it comes nearer to, and at the other one if that is among those that are looked at.
-fn widen_level(
+fn add_level_limits(
     alloc: Global,
     board: &Board,
     line: u32,
@@ -33,13 +33,13 @@ fn widen_level(
     ensures different { OnOk result (AreDifferent past.new.items) }
 {
     add(alloc, board, nearer(amount), line, past)?;
-    widen_at(alloc, board, nearer(amount), line, amount, past)?;
-    widen_at(alloc, board, further(amount), line, amount, past)?;
+    look_further(alloc, board, nearer(amount), line, amount, past)?;
+    look_further(alloc, board, further(amount), line, amount, past)?;
     Ok(())
 }
 
 // Adds the limits that a timeline may come past by a demand.
-fn widen_by(
+fn add_limits_of(
     alloc: Global,
     board: &Board,
     demand: &Demand,
@@ -53,13 +53,13 @@ fn widen_by(
 {
     match &demand.asked {
         Asked::Use(_) => add(alloc, board, Side::Over, demand.line, past),
-        Asked::Effect(e) => widen_level(alloc, board, demand.line, e.delta, past),
+        Asked::Effect(e) => add_level_limits(alloc, board, demand.line, e.delta, past),
         _ => Ok(()),
     }
 }
 
 /// Adds the limits that some demands may pass.
-pub(crate) fn widen(
+pub(crate) fn add_limits(
     alloc: Global,
     board: &Board,
     demands: &[Demand],
@@ -72,7 +72,7 @@ pub(crate) fn widen(
     ensures different { OnOk result (AreDifferent past.new.items) }
 {
     for demand in demands {
-        widen_by(alloc, board, demand, past)?;
+        add_limits_of(alloc, board, demand, past)?;
     }
     Ok(())
 }
@@ -93,7 +93,7 @@ fn look_without(
     match &demand.asked {
         Asked::Effect(e) => {
             let less = 0_i64.saturating_sub(e.delta);
-            widen_at(alloc, board, further(less), demand.line, less, past)
+            look_further(alloc, board, further(less), demand.line, less, past)
         }
         _ => Ok(()),
     }

@@ -7,7 +7,7 @@ use Rattle.pl_state.specs.Keys.{Has}
 use Rattle.pl_bounds.specs.Settings.{musts_asked}
 use Rattle.pl_bounds.proofs.Breached.{broken_then}
 use Rattle.pl_bounds.proofs.States.{must_asked}
-use Rattle.pl_bounds.proofs.breaches.is_broken.Goals as goal
+use Rattle.pl_bounds.proofs.broken_musts.is_broken.Goals as goal
 
 pub returns : goal.returns
 returns c = λ free gone more x.

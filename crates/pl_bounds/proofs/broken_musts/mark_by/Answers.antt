@@ -2,7 +2,7 @@ use Rattle.std.proofs.Common.{refl, inl}
 use Rattle.std.proofs.lemmas.Bool.{eq-eqb}
 use Rattle.pl_semantics.specs.Demands.{asked_of, set_in}
 use Rattle.pl_bounds.proofs.Having.{has_flat}
-use Rattle.pl_bounds.proofs.breaches.mark_by.Goals as goal
+use Rattle.pl_bounds.proofs.broken_musts.mark_by.Goals as goal
 
 pub mark_broken-requires-clause-comes : goal.mark_broken-requires-clause-comes
 mark_broken-requires-clause-comes c =

@@ -1,5 +1,5 @@
 use Rattle.std.proofs.Common.{◌-◌, ◌≤◌, length}
-use Rattle.pl_bounds.proofs.widening.place_of.Given as goal
+use Rattle.pl_bounds.proofs.further_looks.place_of.Given as goal
 
 abbrev pub invariant-places : goal.invariant-places
 invariant-places l = l.place ≤ length l.all
