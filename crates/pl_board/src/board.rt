@@ -1,34 +1,37 @@
-ghost use Rattle.std.specs.Prelude.{◌≡◌, OnOk, OnErr, IfOk, IfSome, IsErr, true, false, None, ◌≤◌, ◌<◌, All, slice_get};
+#![tactic(auto, using(pl_memo::proofs::Remembering::none_remembered))]
+
+ghost use Rattle.std.specs.Prelude.{◌≡◌, OnOk, OnErr, IfOk, IsErr, true, false, None, ◌≤◌, ◌<◌, All, slice_get};
 ghost use Rattle.std.specs.Arc.{arc_value};
 ghost use Rattle.pl_facts.specs.Goals.{goal_of};
 ghost use Rattle.pl_model.specs.Checked.{IsChecked};
 ghost use Rattle.pl_semantics.specs.Conflicts.{conflicts_of};
 ghost use Rattle.pl_semantics.specs.Whole.{IsWhole, IsGoalOf, IsIdBelow};
 ghost use Rattle.pl_board.specs.Boards.{after, IsWatched};
-ghost use Rattle.pl_memo.specs.Memories.{AreProper, AreRemembered, IsFewestAt, WasFewestAt};
 ghost use Rattle.pl_update.specs.Changes.Changes.{first_state, with_goal, without_goal, moved_on, told_now, committed_to, measured_to, withdrawn, with_next, CanTell, IsOpenIn, CanMeasure};
 ghost use Rattle.pl_update.specs.Changes.Replaced.{CanReplace, with_plan};
 
-use crate::watched::{WatchedState, are_rising};
+use crate::watched::WatchedState;
 use pl_conflict::ConflictSet;
 use pl_facts::{Bases, Goal, Goals};
 use pl_lists::Copied;
-use pl_memo::{Memory, going};
+use pl_memo::Memory;
 use pl_model::Model;
-use pl_plan::{Activity, Plan, RepairMove};
+use pl_plan::{Activity, Plan};
 use pl_points::{Ledger, Steps};
 use pl_semantics::{PlanState, SharedModel};
 use std::alloc::{AllocError, Global};
-use std::mem;
 use std::sync::Arc;
 
-// Makes a change of what is watched. Until the change is whole the board counts as spoiled, and a spoiled board
-// refuses it.
+mod remembering;
+
+// Makes a change of what is watched, after which nothing is remembered. Until the change is whole the board counts as
+// spoiled, and a spoiled board refuses it.
 macro_rules! guarded {
     ($board:expr, $change:expr) => {{
         if $board.spoiled {
             return Err(AllocError);
         }
+        $board.memory = Memory::new();
         $board.spoiled = true;
         $change?;
         $board.spoiled = false;
@@ -37,7 +40,7 @@ macro_rules! guarded {
 }
 
 /// A plan state with its conflicts, which are mended near each change. After want of memory a board is spoiled for good. It also
-/// remembers choices; what it remembers is not seen in contracts.
+/// remembers choices, which no contract speaks of.
 #[derive(Drop)]
 pub struct Board {
     alloc: Global,
@@ -105,23 +108,7 @@ impl Board {
         Ok(())
     }
 
-    // Forgets all that is remembered, and answers what of it holds once these activities have left the plan and the others have come.
-    fn memory_after(&mut self, gone: &[u32], placed: &[Activity]) -> Memory
-        requires can { self.old.spoiled ≡ false → CanReplace self.old.state gone.now placed.now }
-        ensures same { self.new ≡ self.old }
-        ensures remembered { self.old.spoiled ≡ false → AreRemembered (with_plan gone.now placed.now self.old.state) result }
-    {
-        let memory = mem::replace(&mut self.memory, Memory::new());
-        if !are_rising(gone) {
-            return Memory::new();
-        }
-        match going(self.alloc, &self.watched.state.plan, gone) {
-            Ok(left) => memory.changed(self.alloc, &left, placed),
-            Err(_) => Memory::new(),
-        }
-    }
-
-    // The replacement, after which nothing is remembered.
+    // The replacement alone, which forgets all that is remembered.
     fn replace_watched<L: Ledger>(
         &mut self,
         gone: &[u32],
@@ -133,44 +120,7 @@ impl Board {
         ensures err { OnErr result (self.new.spoiled ≡ true) }
         ensures after_spoil { self.old.spoiled ≡ true → IsErr result }
     {
-        self.memory = Memory::new();
         guarded!(self, self.watched.replace(self.alloc, gone, placed, steps))
-    }
-
-    /// The place of the first of these moves that leaves the fewest conflicts, if it is remembered.
-    pub fn recall(&self, moves: &[RepairMove]) -> Option<usize>
-        requires unspoiled { self.now.spoiled ≡ false }
-        requires proper { AreProper self.now.state moves.now }
-        ensures { IfSome result (IsFewestAt self.now.state moves.now) }
-    {
-        self.memory.recall(&self.watched.state, moves)
-    }
-
-    /// Remembers the place of the first of these moves that leaves the fewest conflicts, if there is memory for it.
-    pub fn remember(&mut self, moves: &[RepairMove], place: usize)
-        requires unspoiled { self.old.spoiled ≡ false }
-        requires proper { AreProper self.old.state moves.now }
-        requires fewest { IsFewestAt self.old.state moves.now place }
-        ensures { self.new ≡ self.old }
-    {
-        let memory = mem::replace(&mut self.memory, Memory::new());
-        self.memory = memory.remember(self.alloc, moves, place);
-    }
-
-    /// The same of the plan that stood before some activities left it and others came in their places.
-    pub fn remember_before(
-        &mut self,
-        left: &[Activity],
-        more: &[Activity],
-        moves: &[RepairMove],
-        place: usize,
-    )
-        requires unspoiled { self.old.spoiled ≡ false }
-        requires fewest { WasFewestAt self.old.state left.now more.now moves.now place }
-        ensures { self.new ≡ self.old }
-    {
-        let memory = mem::replace(&mut self.memory, Memory::new());
-        self.memory = memory.remember_before(self.alloc, left, more, moves, place);
     }
 
     /// Accepts a goal.
@@ -182,7 +132,6 @@ impl Board {
         ensures err { OnErr result (self.new.spoiled ≡ true) }
         ensures after_spoil { self.old.spoiled ≡ true → IsErr result }
     {
-        self.memory = Memory::new();
         guarded!(self, self.watched.add_goal(self.alloc, goal))
     }
 
@@ -193,7 +142,6 @@ impl Board {
         ensures err { OnErr result (self.new.spoiled ≡ true) }
         ensures after_spoil { self.old.spoiled ≡ true → IsErr result }
     {
-        self.memory = Memory::new();
         guarded!(self, self.watched.drop_goal(self.alloc, number))
     }
 
@@ -205,7 +153,6 @@ impl Board {
         ensures err { OnErr result (self.new.spoiled ≡ true) }
         ensures after_spoil { self.old.spoiled ≡ true → IsErr result }
     {
-        self.memory = Memory::new();
         guarded!(self, self.watched.tick(self.alloc, now, steps))
     }
 
@@ -221,7 +168,6 @@ impl Board {
         ensures err { OnErr result (self.new.spoiled ≡ true) }
         ensures after_spoil { self.old.spoiled ≡ true → IsErr result }
     {
-        self.memory = Memory::new();
         guarded!(self, self.watched.tell(line, value, steps))
     }
 
@@ -233,7 +179,6 @@ impl Board {
         ensures err { OnErr result (self.new.spoiled ≡ true) }
         ensures after_spoil { self.old.spoiled ≡ true → IsErr result }
     {
-        self.memory = Memory::new();
         guarded!(self, self.watched.commit(self.alloc, h))
     }
 
@@ -249,7 +194,6 @@ impl Board {
         ensures err { OnErr result (self.new.spoiled ≡ true) }
         ensures after_spoil { self.old.spoiled ≡ true → IsErr result }
     {
-        self.memory = Memory::new();
         guarded!(self, self.watched.until(self.alloc, id, moment, steps))
     }
 
@@ -259,7 +203,6 @@ impl Board {
         ensures err { OnErr result (self.new.spoiled ≡ true) }
         ensures after_spoil { self.old.spoiled ≡ true → IsErr result }
     {
-        self.memory = Memory::new();
         guarded!(self, self.watched.withdraw(self.alloc))
     }
 

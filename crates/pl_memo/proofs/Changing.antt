@@ -5,7 +5,7 @@ use Rattle.std.specs.List.{fold}
 use Rattle.std.proofs.Math.ListN.{drop_of_length-le}
 use Rattle.std.proofs.lemmas.List.{drop_more}
 use Rattle.pl_plan.specs.declared.activity.Activity.{Activity}
-use Rattle.pl_plan.specs.Activities.{AreRising, activity_of, placed, without}
+use Rattle.pl_plan.specs.Activities.{AreRising, placed, without}
 use Rattle.pl_plan.specs.Trees.{id_of}
 use Rattle.pl_plan.proofs.Ids.{rising-without, rising-placed}
 use Rattle.pl_update.specs.Changes.Replaced.{taken, put, replaced}

@@ -1,15 +1,12 @@
 -- The first move that leaves the fewest conflicts is told by the counts.
-use Rattle.std.proofs.Common.{◌≡◌, ℕ, leb, Bool, true, List, [], ◌∷◌, refl, ap, ◌∙◌}
-use Rattle.std.specs.Prelude.{All, map, find, slice_get}
+use Rattle.std.proofs.Common.{◌≡◌, ℕ, leb, Bool, List, [], ◌∷◌, refl, ap, ◌∙◌}
+use Rattle.std.specs.Prelude.{map, find, slice_get}
 use Rattle.std.specs.List.{list_all, position_or_len}
-use Rattle.std.proofs.lemmas.List.Elements.{All-head, All-tail}
 use Rattle.std.proofs.lemmas.List.Folds.{find_at}
 use Rattle.pl_plan.specs.declared.repair.RepairMove.{RepairMove}
 use Rattle.pl_semantics.specs.declared.plan_state.PlanState.{PlanState}
-use Rattle.pl_semantics.specs.Moves.{is_proper}
 use Rattle.pl_semantics.specs.Legal.{left_after}
-use Rattle.pl_semantics.specs.Whole.{IsWhole}
-use Rattle.pl_memo.specs.Fewest.{counts_after, is_least, first_least, fewest_place}
+use Rattle.pl_memo.specs.Fewest.{counts_after, is_least, fewest_place}
 
 -- ---- the first that leaves the fewest, by its place
 

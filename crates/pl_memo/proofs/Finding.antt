@@ -1,5 +1,5 @@
 -- A few activities by rising id, as the code goes through them.
-use Rattle.std.proofs.Common.{◌≡◌, ℕ, zero, suc, ◌+◌, ◌≤◌, eqb, ltb, Bool, true, false, cond, List, [], ◌∷◌, length, Option, Some, None, refl, sym, ap, ◌∙◌, arith}
+use Rattle.std.proofs.Common.{◌≡◌, ℕ, suc, ◌+◌, ◌≤◌, eqb, ltb, Bool, true, false, cond, List, [], ◌∷◌, length, Some, refl, sym, ap, ◌∙◌, arith}
 use Rattle.std.specs.Prelude.{find, not, ◌||◌, is_some}
 use Rattle.std.specs.List.{list_any, insert, remove, prefix_len, position_or_len}
 use Rattle.pl_plan.specs.declared.activity.Activity.{Activity}

@@ -1,5 +1,5 @@
 -- What is remembered holds in the plan after a change, and does not depend on the id that is given next.
-use Rattle.std.proofs.Common.{◌≡◌, ℕ, suc, ◌<◌, ◌≤◌, eqb, Bool, false, cond, List, [], ◌∷◌, ◌++◌, map, Option, Some, None, IfSome, refl, sym, ap, ◌∙◌, subst, arith}
+use Rattle.std.proofs.Common.{◌≡◌, ℕ, suc, eqb, Bool, false, cond, List, [], ◌∷◌, ◌++◌, map, Option, Some, None, refl, sym, ap, ◌∙◌, subst, arith}
 use Rattle.std.specs.Prelude.{◌≢◌, All, IsSome}
 use Rattle.std.proofs.lemmas.Bool.{ne_eqb}
 use Rattle.std.proofs.lemmas.List.Elements.{All-nil, All-cons, All-head, All-tail}
@@ -15,13 +15,13 @@ use Rattle.pl_semantics.specs.Whole.{IsWhole}
 use Rattle.pl_semantics.proofs.Found.{found_id}
 use Rattle.pl_update.specs.Changes.Changes.{with_next}
 use Rattle.pl_update.specs.Changes.Putting.{CanPut}
-use Rattle.pl_update.specs.Changes.Replaced.{CanReplace, replaced, taken, with_plan}
+use Rattle.pl_update.specs.Changes.Replaced.{CanReplace, taken, with_plan}
 use Rattle.pl_update.specs.Timelines.Laws.{AreOnce}
 use Rattle.pl_update.proofs.AboutChanges.Putting.{puttable}
 use Rattle.pl_memo.specs.declared.difference.Difference.{Difference}
 use Rattle.pl_memo.specs.declared.memory.Answer.{Answer}
 use Rattle.pl_memo.specs.declared.memory.Memory.{Memory}
-use Rattle.pl_memo.specs.Differences.{CanLeave, IsChangedBy, IsDifference, no_difference}
+use Rattle.pl_memo.specs.Differences.{CanLeave, IsChangedBy, no_difference}
 use Rattle.pl_memo.specs.Memories.{AreProper, AreRemembered, Holds, HoldsIfAny, IsFewestAt, IsMadeFrom, alone, going, nothing}
 use Rattle.pl_memo.proofs.Changing.{after_replacement, none_differs}
 

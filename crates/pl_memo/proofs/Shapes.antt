@@ -1,5 +1,5 @@
 -- A plan is its base with what is gone taken out and what is placed put in.
-use Rattle.std.proofs.Common.{◌≡◌, ℕ, suc, ◌<◌, ◌≤◌, eqb, Bool, true, false, cond, List, [], ◌∷◌, Option, Some, None, refl, sym, ap, ◌∙◌, arith}
+use Rattle.std.proofs.Common.{◌≡◌, ℕ, suc, eqb, Bool, true, false, cond, List, [], ◌∷◌, Option, Some, None, refl, sym, ap, ◌∙◌, arith}
 use Rattle.std.specs.Prelude.{map, is_some}
 use Rattle.std.specs.Option.{option_or}
 use Rattle.std.proofs.lemmas.Bool.{eqb-true, eq-eqb, ne_eqb}
@@ -14,7 +14,7 @@ use Rattle.pl_update.specs.Changes.Putting.{CanPut}
 use Rattle.pl_update.proofs.AboutChanges.Putting.{found-taken, rising-replaced}
 use Rattle.pl_renumbering.proofs.Ranks.{found_above}
 use Rattle.pl_memo.specs.declared.difference.Difference.{Difference}
-use Rattle.pl_memo.specs.Differences.{shown, IsDifference}
+use Rattle.pl_memo.specs.Differences.{IsDifference}
 
 among_ids : (id : ℕ) (ys : List Activity) → among id (map id_of ys) ≡ is_some (activity_of id ys)
 among_ids id [] = refl

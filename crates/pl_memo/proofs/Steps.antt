@@ -1,5 +1,5 @@
 -- A difference after one activity has left the plan, or has come into it.
-use Rattle.std.proofs.Common.{◌≡◌, ⊎_elim, ℕ, ◌≤◌, eqb, Bool, true, false, cond, List, [], ◌∷◌, Option, Some, None, refl, sym, ap, ◌∙◌, subst, arith}
+use Rattle.std.proofs.Common.{◌≡◌, ⊎_elim, ℕ, eqb, Bool, true, false, cond, List, Option, Some, None, refl, sym, ap, ◌∙◌, subst, arith}
 use Rattle.std.specs.Prelude.{is_some}
 use Rattle.std.specs.Option.{option_or}
 use Rattle.std.proofs.lemmas.Bool.{eqb-true}
@@ -8,7 +8,7 @@ use Rattle.pl_plan.specs.Activities.{AreRising, activity_of, placed, without}
 use Rattle.pl_plan.proofs.Ids.{rising-without, rising-placed}
 use Rattle.pl_plan.proofs.Lookups.{found-placed, found-without}
 use Rattle.pl_memo.specs.declared.difference.Difference.{Difference}
-use Rattle.pl_memo.specs.Differences.{shown, IsDifference, leaving, Comes}
+use Rattle.pl_memo.specs.Differences.{IsDifference, leaving, Comes}
 
 -- ---- what is found, by its parts
 

@@ -1,5 +1,5 @@
 -- Where a plan differs from an earlier one by the ids of its newest roots alone, moves under the other ids leave as many conflicts.
-use Rattle.std.proofs.Common.{◌≡◌, ℕ, ◌+◌, ◌<◌, ◌≤◌, Bool, true, false, cond, List, [], ◌∷◌, ◌++◌, map, length, Option, Some, None, IfSome, refl, sym, ap, ◌∙◌, subst, arith}
+use Rattle.std.proofs.Common.{◌≡◌, ℕ, ◌<◌, ◌≤◌, Bool, true, false, cond, List, [], ◌∷◌, ◌++◌, map, length, Option, Some, None, IfSome, refl, sym, ap, ◌∙◌, subst, arith}
 use Rattle.std.specs.Prelude.{All, is_some}
 use Rattle.std.specs.Option.{option_or}
 use Rattle.std.proofs.lemmas.List.{length-append, length-map, map-append}
@@ -9,23 +9,23 @@ use Rattle.pl_plan.specs.declared.activity.Activity.{Activity}
 use Rattle.pl_plan.specs.declared.repair.RepairMove.{RepairMove}
 use Rattle.pl_plan.specs.declared.repair.RepairMove.TheVariants.{Add, Delete, Shift, Detail, Abstract, Assign, Drop}
 use Rattle.pl_plan.specs.Activities.{RiseFrom, AreRising, IsLive, activity_of}
-use Rattle.pl_plan.specs.Trees.{IsParented, IsRooted}
+use Rattle.pl_plan.specs.Trees.{IsParented}
 use Rattle.pl_plan.proofs.LookUpLaws.{same_activities}
 use Rattle.pl_semantics.specs.declared.plan_state.PlanState.{PlanState}
 use Rattle.pl_semantics.specs.PlanStates.{found}
 use Rattle.pl_semantics.specs.Moves.{holds, is_proper}
 use Rattle.pl_semantics.specs.Legal.{left_after}
 use Rattle.pl_semantics.specs.Whole.{IsWhole}
-use Rattle.pl_renumbering.specs.Renumbered.{renumbered, renumbered_move}
-use Rattle.pl_renumbering.specs.Normal.{rank, normal_of, normal_move, AreAlike}
+use Rattle.pl_renumbering.specs.Renumbered.{renumbered}
+use Rattle.pl_renumbering.specs.Normal.{rank, normal_move, AreAlike}
 use Rattle.pl_renumbering.proofs.Alike.{left_alike}
 use Rattle.pl_memo.specs.declared.difference.Difference.{Difference}
 use Rattle.pl_memo.specs.declared.memory.Answer.{Answer}
 use Rattle.pl_memo.specs.Differences.{IsDifference, shown}
-use Rattle.pl_memo.specs.Fewest.{counts_after, first_least, fewest_place}
+use Rattle.pl_memo.specs.Fewest.{counts_after, first_least}
 use Rattle.pl_memo.specs.Memories.{AreProper, AreSameBeside, Holds, IsFewestAt}
 use Rattle.pl_memo.specs.Renames.{AreTwins, OnlyRenames, renamed, renamed_move}
-use Rattle.pl_memo.proofs.Tails.{IsBefore, above, all_above, before_rises, found_either, front_same, none_before, rank_before, renamed_other, renamed_rank, tails_same}
+use Rattle.pl_memo.proofs.Tails.{IsBefore, above, all_above, found_either, front_same, none_before, rank_before, renamed_other, renamed_rank, tails_same}
 
 pub same_length : (gone placed : List Activity) → Pairwise AreTwins gone placed → length gone ≡ length placed
 same_length [] [] twins = refl

@@ -48,6 +48,7 @@ pub record AreRemembered (s : PlanState) (m : Memory) : Type 0 where
   pub second : HoldsIfAny s m.second
   pub third : HoldsIfAny s m.third
 
+-- nothing is remembered
 abbrev pub nothing : Memory
 nothing = record { newest = None; second = None; third = None }
 
@@ -61,14 +62,14 @@ abbrev pub going : List Activity → List ℕ → List Activity
 going xs [] = []
 going xs (id ∷ ids) = of_found alone (activity_of id xs) ++ going xs ids
 
--- From the state before, some activities left the plan, and others came in their places.
+-- The state came of the one before by a replacement: these activities left the plan, and the others came.
 pub record IsMadeFrom (before s : PlanState) (left more : List Activity) : Type 0 where
   pub whole : IsWhole before
   pub can : CanReplace before (map id_of left) more
   pub leave : CanLeave before.plan.activities left
   pub is : s ≡ with_plan (map id_of left) more before
 
--- it was right in the state before
+-- In the state before, the first of these moves that leaves the fewest conflicts stood at this place.
 pub record WasFewestAt (s : PlanState) (left more : List Activity) (moves : List RepairMove) (place : ℕ) : Type 0 where
   pub before : PlanState
   pub made : IsMadeFrom before s left more

@@ -1,5 +1,5 @@
 -- Differences that give other ids to the newest activities, all of them roots, and change nothing else.
-use Rattle.std.specs.Prelude.{◌≡◌, ℕ, ◌==◌, List, [], ◌∷◌, ◌++◌, None, if◌then◌else◌}
+use Rattle.std.specs.Prelude.{◌≡◌, ℕ, ◌==◌, List, ◌∷◌, ◌++◌, None, if◌then◌else◌}
 use Rattle.pl_lists.specs.Lists.{Pairwise}
 use Rattle.pl_plan.specs.declared.activity.Activity.{Activity}
 use Rattle.pl_plan.specs.declared.repair.RepairMove.{RepairMove}

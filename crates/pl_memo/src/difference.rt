@@ -3,16 +3,16 @@ ghost use Rattle.pl_memo.specs.Differences.{no_difference, leaving, Comes};
 
 use crate::rows::{has, with, without};
 use crate::same::stands;
-use pl_lists::{Copied, Items};
+use pl_lists::Items;
 use pl_plan::Activity;
 use std::alloc::{AllocError, Global};
 
-/// How the activities of a plan differ from those of another one, its base. Both lists go by rising id.
+/// How the activities of a plan differ from those of an earlier one. Both lists go by rising id.
 #[derive(Drop)]
 pub struct Difference {
-    /// What the base has and the plan has not, or has otherwise: as it is in the base.
+    /// What the earlier plan has and the plan has not, or has with other fields: as it is in the earlier one.
     pub gone: Items<Activity>,
-    /// What the plan has and the base has not, or has otherwise: as it is in the plan.
+    /// What the plan has and the earlier one has not, or has with other fields: as it is in the plan.
     pub placed: Items<Activity>,
 }
 
@@ -61,14 +61,5 @@ impl Difference {
                 placed: with(placed, a)?,
             })
         }
-    }
-}
-
-impl Copied for Difference {
-    fn copy(&self, alloc: Global) -> Result<Difference, AllocError> {
-        Ok(Difference {
-            gone: self.gone.copy(alloc)?,
-            placed: self.placed.copy(alloc)?,
-        })
     }
 }

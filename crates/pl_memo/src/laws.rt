@@ -19,14 +19,14 @@ ghost use Rattle.pl_memo.specs.Renames.{OnlyRenames, renamed_move};
 ghost use Rattle.pl_memo.specs.Fewest.{fewest_place};
 
 /// A plan does not differ from itself. A replacement changes the difference by what leaves and what comes, and the plan is
-/// always its base with what is gone taken out and what is placed put in.
+/// always the earlier one with what is gone taken out and what is placed put in.
 pub fn laws_of_differences()
-    ensures none { (base : List Activity) → IsDifference base base no_difference }
-    ensures leaves { (base xs : List Activity) (d : Difference) (a : Activity) → AreRising xs → IsDifference base xs d → activity_of a.id xs ≡ Some a → IsDifference base (without a.id xs) (leaving d a) }
-    ensures comes { (base xs : List Activity) (d e : Difference) (a : Activity) → AreRising xs → IsDifference base xs d → activity_of a.id xs ≡ None → Comes d a e → IsDifference base (placed a xs) e }
-    ensures replacement { (base xs out more : List Activity) (d e : Difference) → AreRising xs → IsDifference base xs d → CanLeave xs out → CanPut (taken xs (map id_of out)) more → IsChangedBy out more d e
-        → IsDifference base (replaced xs (map id_of out) more) e }
-    ensures shape { (base xs : List Activity) (d : Difference) → AreRising base → AreRising xs → IsDifference base xs d → xs ≡ replaced base (map id_of d.gone) d.placed }
+    ensures none { (earlier : List Activity) → IsDifference earlier earlier no_difference }
+    ensures leaves { (earlier xs : List Activity) (d : Difference) (a : Activity) → AreRising xs → IsDifference earlier xs d → activity_of a.id xs ≡ Some a → IsDifference earlier (without a.id xs) (leaving d a) }
+    ensures comes { (earlier xs : List Activity) (d e : Difference) (a : Activity) → AreRising xs → IsDifference earlier xs d → activity_of a.id xs ≡ None → Comes d a e → IsDifference earlier (placed a xs) e }
+    ensures replacement { (earlier xs out more : List Activity) (d e : Difference) → AreRising xs → IsDifference earlier xs d → CanLeave xs out → CanPut (taken xs (map id_of out)) more → IsChangedBy out more d e
+        → IsDifference earlier (replaced xs (map id_of out) more) e }
+    ensures shape { (earlier xs : List Activity) (d : Difference) → AreRising earlier → AreRising xs → IsDifference earlier xs d → xs ≡ replaced earlier (map id_of d.gone) d.placed }
 {}
 
 /// The first move that leaves the fewest conflicts is told by its place. In two states that are the same but for the ids of the newest

@@ -12,7 +12,7 @@ use pl_plan::{Activity, RepairMove};
 use pl_semantics::PlanState;
 use std::alloc::{AllocError, Global};
 
-// An answer is forgotten once more activities than this have left the plan since it was given, or as many have come.
+// An answer is forgotten once more activities than this are gone since it was given, or once more than this have come.
 const MOST: usize = 8;
 
 /// Of these moves, the one at this place was the first that leaves the fewest conflicts, in an earlier plan. `since` is how the plan
@@ -90,7 +90,7 @@ impl Answer {
     }
 }
 
-// An answer after a change of the plan, if it is still worth keeping and there is memory for it.
+// An answer after a change of the plan, unless it is no longer near or memory is wanting.
 fn kept(
     alloc: Global,
     answer: Option<Answer>,
@@ -171,7 +171,7 @@ impl Memory {
         }
     }
 
-    /// Remembers the place of the first of these moves that leaves the fewest conflicts, if there is memory for it.
+    /// Remembers the place of the first of these moves that leaves the fewest conflicts. Where memory is wanting, it is not remembered.
     pub fn remember(self, alloc: Global, moves: &[RepairMove], place: usize) -> Memory
         ensures { (s : PlanState) → IsWhole s → AreProper s moves.now → IsFewestAt s moves.now place → AreRemembered s self → AreRemembered s result }
     {
@@ -181,7 +181,7 @@ impl Memory {
         }
     }
 
-    /// The same of the plan that stood before some activities left it and others came in their places.
+    /// The same of the plan that stood before these activities left it and the others came.
     pub fn remember_before(
         self,
         alloc: Global,

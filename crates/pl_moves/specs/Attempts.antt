@@ -21,8 +21,8 @@ is_enough (Some most) left = nat_le left most && nat_lt left 4294967295
 abbrev pub IsTrial : PlanState → RepairMove → Trial → Type 0
 IsTrial s m t = IsTrialOf s m t.change.gone.items t.change.placed.items t.undo.gone.items t.undo.placed.items
 
--- Given a plan state and a move that is made in it, what is told of the move: what it changes and how that is undone. Nothing is told
--- only of a move that changes no activities.
+-- Given a plan state and a move that is made in it, what is told of the move: what it changes and how that is undone. If nothing
+-- is told, the move changes no activities.
 abbrev pub IsToldOf : PlanState → RepairMove → Option Trial → Type 0
 IsToldOf s m None = IsOfActivities m → ⊥
 IsToldOf s m (Some t) = IsTrial s m t

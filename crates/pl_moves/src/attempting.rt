@@ -3,9 +3,9 @@ ghost use Rattle.std.specs.Prelude.{◌≡◌, ◌≤◌, false, true, min, OnOk
 ghost use Rattle.pl_plan.specs.declared.repair.RepairMove.TheVariants.{Drop};
 ghost use Rattle.pl_semantics.specs.Legal.{left_after};
 ghost use Rattle.pl_semantics.specs.Moves.{is_proper};
-ghost use Rattle.pl_moves.specs.Attempts.{IsAttempted, is_enough};
+ghost use Rattle.pl_moves.specs.Attempts.{IsAttempted, IsTrial, is_enough};
 ghost use Rattle.pl_moves.specs.Changes.{IsOfActivities};
-ghost use Rattle.pl_moves.specs.Runs.{CanBeMade, IsTrialOf};
+ghost use Rattle.pl_moves.specs.Runs.{CanBeMade};
 
 use crate::application::make_change;
 use crate::attempts::Attempt;
@@ -36,7 +36,7 @@ fn attempt_between<L: Ledger>(
     steps: &mut Steps<L>,
 ) -> Result<Attempt, AllocError>
     requires unspoiled { board.old.spoiled ≡ false }
-    requires trial { IsTrialOf board.old.state mv.now trial.change.gone.items trial.change.placed.items trial.undo.gone.items trial.undo.placed.items }
+    requires trial { IsTrial board.old.state mv.now trial }
     ensures attempted { IfOk result (λ a. IsAttempted mv.now enough board.old a board.new) }
     ensures err { OnErr result (board.new.spoiled ≡ true) }
 {

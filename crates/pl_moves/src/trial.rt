@@ -2,8 +2,8 @@
 ghost use Rattle.std.specs.Prelude.{◌≡◌, ◌≤◌, true, None, IfOk};
 ghost use Rattle.pl_semantics.specs.Whole.{IsWhole};
 ghost use Rattle.pl_semantics.specs.Moves.{is_proper, refusal_of};
+ghost use Rattle.pl_moves.specs.Attempts.{IsTrial};
 ghost use Rattle.pl_moves.specs.Changes.{IsOfActivities};
-ghost use Rattle.pl_moves.specs.Runs.{IsTrialOf};
 
 use crate::change::{Change, change_of};
 use crate::undoing::undoing;
@@ -25,7 +25,7 @@ pub fn trial_of(alloc: Global, s: &PlanState, mv: &RepairMove) -> Result<Trial, 
     requires allowed { refusal_of s.now mv.now ≡ None }
     requires next { s.now.next_id ≤ 3999999000 }
     requires activities { IsOfActivities mv.now }
-    ensures { IfOk result (λ t. IsTrialOf s.now mv.now t.change.gone.items t.change.placed.items t.undo.gone.items t.undo.placed.items) }
+    ensures { IfOk result (IsTrial s.now mv.now) }
 {
     let change = change_of(alloc, s, mv)?;
     let undo = undoing(alloc, &s.plan, &change)?;

@@ -1,4 +1,4 @@
-//! What a plan is worth does not depend on the ids of its activities, only on their order: the definitions and the laws.
+//! What is wrong with a plan, and what moves make of it, does not depend on the ids of its activities, but on their order alone.
 #![tactic(auto)]
 
 mod laws;

@@ -1,4 +1,4 @@
-use Rattle.std.proofs.Common.{◌≡◌, get_or, sym, subst}
+use Rattle.std.proofs.Common.{◌≡◌, get_or, subst}
 use Rattle.pl_plan.specs.declared.activity.Activity.{Activity}
 use Rattle.pl_memo.specs.Renames.{AreTwins}
 use Rattle.pl_memo.proofs.Pairs.{pairs_more, pairs_all}
