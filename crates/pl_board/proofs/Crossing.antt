@@ -13,6 +13,9 @@ use Rattle.pl_state.specs.contracts.musts.Musts
 use Rattle.pl_board.specs.contracts.board.Board
 use Rattle.pl_conflict.specs.contracts.set.ConflictSet
 use Rattle.pl_links.specs.contracts.links.Links
+use Rattle.pl_memo.specs.contracts.difference.Difference
+use Rattle.pl_memo.specs.contracts.memory.Answer
+use Rattle.pl_memo.specs.contracts.memory.Memory
 use Rattle.pl_update.specs.contracts.evaluations.evaluations.Evaluations
 use Rattle.pl_semantics.specs.contracts.plan_state.PlanState
 use Rattle.pl_semantics.proofs.Crossing.{state_parts}
@@ -73,6 +76,25 @@ links_send = search (maps.crosses, over.crosses, sendable, crosses) depth 40 fit
 pub links_sync : IsSync Links.the_field.row
 links_sync = search (maps.crosses, over.crosses, sendable, crosses) depth 40 fits 6000
 
+-- what is remembered, by its differences and its answers
+difference_send : IsSend Difference.the_field.row
+difference_send = search (sendable, crosses) depth 40 fits 6000
+
+difference_sync : IsSync Difference.the_field.row
+difference_sync = search (sendable, crosses) depth 40 fits 6000
+
+answer_send : IsSend Answer.the_field.row
+answer_send = search (difference_send, difference_sync, sendable, crosses) depth 40 fits 6000
+
+answer_sync : IsSync Answer.the_field.row
+answer_sync = search (difference_send, difference_sync, sendable, crosses) depth 40 fits 6000
+
+memory_send : IsSend Memory.the_field.row
+memory_send = search (answer_send, answer_sync, sendable, crosses) depth 40 fits 6000
+
+memory_sync : IsSync Memory.the_field.row
+memory_sync = search (answer_send, answer_sync, sendable, crosses) depth 40 fits 6000
+
 pub plan_state_send : IsSend PlanState.the_field.row
 plan_state_send = search (state_parts, sendable, crosses) depth 40 fits 6000
 
@@ -93,7 +115,7 @@ pub ruleset watched_parts = (
 )
 
 pub board_send : IsSend Board.the_field.row
-board_send = search (watched_parts, sendable, crosses) depth 40 fits 6000
+board_send = search (watched_parts, memory_send, memory_sync, sendable, crosses) depth 40 fits 6000
 
 pub board_sync : IsSync Board.the_field.row
-board_sync = search (watched_parts, sendable, crosses) depth 40 fits 6000
+board_sync = search (watched_parts, memory_send, memory_sync, sendable, crosses) depth 40 fits 6000
