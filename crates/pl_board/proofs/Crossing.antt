@@ -89,10 +89,10 @@ answer_send = search (difference_send, difference_sync, sendable, crosses) depth
 answer_sync : IsSync Answer.the_field.row
 answer_sync = search (difference_send, difference_sync, sendable, crosses) depth 40 fits 6000
 
-memory_send : IsSend Memory.the_field.row
+pub memory_send : IsSend Memory.the_field.row
 memory_send = search (answer_send, answer_sync, sendable, crosses) depth 40 fits 6000
 
-memory_sync : IsSync Memory.the_field.row
+pub memory_sync : IsSync Memory.the_field.row
 memory_sync = search (answer_send, answer_sync, sendable, crosses) depth 40 fits 6000
 
 pub plan_state_send : IsSend PlanState.the_field.row
@@ -112,10 +112,12 @@ pub ruleset watched_parts = (
   links_sync,
   plan_state_send,
   plan_state_sync,
+  memory_send,
+  memory_sync,
 )
 
 pub board_send : IsSend Board.the_field.row
-board_send = search (watched_parts, memory_send, memory_sync, sendable, crosses) depth 40 fits 6000
+board_send = search (watched_parts, sendable, crosses) depth 40 fits 6000
 
 pub board_sync : IsSync Board.the_field.row
-board_sync = search (watched_parts, memory_send, memory_sync, sendable, crosses) depth 40 fits 6000
+board_sync = search (watched_parts, sendable, crosses) depth 40 fits 6000
