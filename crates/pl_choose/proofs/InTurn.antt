@@ -1,7 +1,8 @@
 -- Moves that are tried in turn, from the first on.
-use Rattle.std.proofs.Common.{◌≡◌, ℕ, ◌+◌, ◌<◌, ◌≤◌, List, [], ◌∷◌, map, length, get_or, drop, refl, sym, ap, ◌∙◌, subst, arith, inl, inr}
-use Rattle.std.specs.Prelude.{◌⊎◌, All, Some, None}
+use Rattle.std.proofs.Common.{◌≡◌, ℕ, ◌+◌, ◌<◌, ◌≤◌, List, [], ◌∷◌, map, length, get_or, drop, true, refl, sym, ap, ◌∙◌, subst, arith, inl, inr}
+use Rattle.std.specs.Prelude.{◌⊎◌, All, Option, Some, None}
 use Rattle.std.proofs.lemmas.List.{drop_more, get_or-map, get_or_default, length-map}
+use Rattle.std.proofs.lemmas.Option.{slice_get-get_or}
 use Rattle.pl_plan.specs.declared.repair.RepairMove.{RepairMove}
 use Rattle.pl_plan.specs.declared.repair.RepairMove.TheVariants.{Add}
 use Rattle.pl_semantics.specs.declared.plan_state.PlanState.{PlanState}
@@ -16,10 +17,14 @@ use Rattle.pl_moves.specs.Undone.{IsUndoneBy}
 use Rattle.pl_choose.specs.declared.best.Best.{Best}
 use Rattle.pl_choose.specs.declared.stages.Stage.{Stage}
 use Rattle.pl_choose.specs.declared.in_turn.Progress.{Progress}
+use Rattle.pl_choose.specs.declared.in_turn.Turn.TheVariants.{Made}
+use Rattle.pl_choose.specs.declared.purpose.Purpose.{Purpose}
+use Rattle.pl_choose.specs.declared.purpose.Purpose.TheVariants.{Mend}
+use Rattle.pl_choose.specs.Choice.{IsFewestBelow, is_below}
 use Rattle.pl_choose.specs.Picks.{fewest}
 use Rattle.pl_choose.specs.Stages.{CanStandInstead, IsStage, TakesOut, instead, move_of, next_behind}
 use Rattle.pl_choose.specs.Tried.{better_of, best_of}
-use Rattle.pl_choose.specs.InTurn.{AreTried, gone_in}
+use Rattle.pl_choose.specs.InTurn.{AreTried, IsTurnIf, gone_in}
 use Rattle.pl_choose.proofs.Instead.{can_stand, stood}
 use Rattle.pl_choose.proofs.Trying.{best, all_tried, counted, found, next_tried, none_better}
 
@@ -155,10 +160,10 @@ module _ (s : PlanState) (whole : IsWhole s) (stages : List Stage) (gone : List 
   stands_best is = tried.made any ∙ ap (λ (m : RepairMove). after (applied s m)) (ap (λ (k : ℕ). get_or (map move_of stages) k any) (sym is) ∙ tried.there any)
 
   -- the move at the place of the best is the best
-  pub best_at : (other : Stage) → other ≡ get_or stages t.place other → other.mv ≡ t.best.mv
+  best_at : (other : Stage) → other ≡ get_or stages t.place other → other.mv ≡ t.best.mv
   best_at other is_other = move_at s whole stages gone are same t.place other place_within is_other ∙ tried.there any
 
-  pub stage_at : (other : Stage) → other ≡ get_or stages t.place other → IsStage s other
+  stage_at : (other : Stage) → other ≡ get_or stages t.place other → IsStage s other
   stage_at other is_other = is_stage s whole stages gone are same t.place other place_within is_other
 
   module _ (one : Stage) (is : one ≡ get_or stages t.at one) where
@@ -176,3 +181,18 @@ module _ (s : PlanState) (whole : IsWhole s) (stages : List Stage) (gone : List 
       makes_best then_ made =
           follows s whole stages gone are same t.at t.place one other at_within place_within is is_other now (tried.made any) then_ made
           ∙ ap (λ (m : RepairMove). after (applied s m)) (move_at s whole stages gone are same t.place other place_within is_other ∙ tried.there any)
+
+-- what comes of it where the best stays made
+pub turn_made : (why : Purpose) (fewer : Option ℕ) (before : Standing) (whole : IsWhole before.state) (stages : List Stage) (gone : List ℕ) (are : All (IsStage before.state) stages) (same : All (TakesOut gone) stages) (t : Progress) (now : Standing) (tried : AreTried before.state (map move_of stages) t now) (last : Standing)
+    → why ≡ Mend → is_below fewer (left_after before.state t.best.mv) ≡ true → last ≡ after (applied before.state t.best.mv) → IsTurnIf why (IsFewestBelow before.state (map move_of stages) fewer) before stages (Some (Made t.place)) last
+turn_made why fewer before whole stages gone are same t now tried last mends below made =
+    let s : PlanState = before.state in
+    let within : t.place < length stages = place_within s whole stages gone are same t now tried in
+    let P : RepairMove → Type 0 = IsFewestBelow s (map move_of stages) fewer in
+    let best : P t.best.mv = (tried.best, below) in (
+      within,
+      λ x there.
+          let at : x ≡ get_or stages t.place x = cc (there, slice_get-get_or stages t.place x within) in
+          let is : x.mv ≡ t.best.mv = best_at s whole stages gone are same t now tried x at in
+          (mends, subst P (sym is) best, made ∙ ap (λ (m : RepairMove). after (applied s m)) (sym is), stage_at s whole stages gone are same t now tried x at),
+    )

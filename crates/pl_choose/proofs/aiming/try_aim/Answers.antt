@@ -12,7 +12,7 @@ use Rattle.pl_choose.proofs.aiming.try_aim.Goals as goal
 
 pub best_by_bounds-requires-clause-least : goal.best_by_bounds-requires-clause-least
 best_by_bounds-requires-clause-least c =
-    let tried = rw c.in-Undone.is at c.in_ok-try_alone.ensures.tried in
+    let tried = rw c.in-Undone.is at c.in_ok-trial.ensures.tried in
     rw tried.2 (least_take c.args.board.now.state c.lowest_place-at.result c.args.moves.now c.args.bounds.now c.requires.least)
 
 pub returns-in-Made-clause-aimed : goal.returns-in-Made-clause-aimed
@@ -21,7 +21,7 @@ returns-in-Made-clause-aimed c =
     let moves : List RepairMove = c.args.moves.now in
     let at : ℕ = c.lowest_place-at.result in
     let within : at < length moves = rw c.requires.count at c.lowest_place-at.ensures in
-    let made = rw c.in-Made.is at c.in_ok-try_alone.ensures.tried in
+    let made = rw c.in-Made.is at c.in_ok-trial.ensures.tried in
     let few : AreEnough (enough_for c.args.purpose c.enough_at.result) (left_after s (get_or moves at (Add 0 0 None))) = rw c.enough_for-enough.ensures at made.0 in (
       is_mended c.args.purpose c.enough_at.result (left_after s (get_or moves at (Add 0 0 None))) few,
       aim_made s c.args.best moves c.args.bounds.now at (Add 0 0 None) c.enough_at.result within c.requires.least (few_enough c.args.purpose c.enough_at.result (left_after s (get_or moves at (Add 0 0 None))) few) c.enough_at.ensures.best c.enough_at.ensures.before c.enough_at.ensures.others,
@@ -38,7 +38,7 @@ returns-in_ok-before-in-Undone-clause-aimed c =
     let left : ℕ = c.in-Undone.left in
     let front : Best = c.in_ok-before-in-Undone.before in
     let within : at < length moves = rw c.requires.count at c.lowest_place-at.ensures in
-    let tried = rw c.in-Undone.is at c.in_ok-try_alone.ensures.tried in
+    let tried = rw c.in-Undone.is at c.in_ok-trial.ensures.tried in
     let one : front ≡ best_of (left_after s) (above c.args.best aim left) (take at moves) = rw (tried.2, c.above-first.ensures) at c.in_ok-before-in-Undone.ensures.best in
     let last : Best = best_of (left_after s) (better_of front aim left) (drop (at + 1) moves) in
     let all : last ≡ best_of (left_after s) c.args.best moves = aimed (left_after s) moves at (Add 0 0 None) left c.args.best front last within tried.0 one refl in

@@ -1,16 +1,12 @@
-use Rattle.std.proofs.Common.{◌≡◌, ap, get_or, map, true, subst, sym, ◌∙◌}
-use Rattle.std.proofs.lemmas.Option.{slice_get-get_or}
+use Rattle.std.proofs.Common.{◌≡◌, ap, true, sym, ◌∙◌}
 use Rattle.pl_semantics.specs.Whole.{IsWhole}
 use Rattle.pl_board.specs.Boards.{Standing, after}
 use Rattle.pl_semantics.specs.Legal.{left_after}
 use Rattle.pl_semantics.specs.Moves.{applied}
-use Rattle.pl_plan.specs.declared.repair.RepairMove.{RepairMove}
-use Rattle.pl_choose.specs.Choice.{IsFewestBelow, is_below}
-use Rattle.pl_choose.specs.Stages.{move_of}
+use Rattle.pl_choose.specs.Choice.{is_below}
 use Rattle.pl_moves.proofs.Trying.{can_undo_then, home, last_state}
-use Rattle.pl_choose.proofs.InTurn.{any, at_within, best_at, can_best, made_by, makes_best, place_within, stage_at, stands_best, undone_by}
+use Rattle.pl_choose.proofs.InTurn.{any, at_within, can_best, made_by, makes_best, place_within, stands_best, turn_made, undone_by}
 use Rattle.pl_choose.proofs.in_turn.best_if_below.Goals as goal
-use Rattle.pl_choose.proofs.in_turn.best_if_below.Goals.{then-progress+in_ok-make_instead, else-progress}
 
 pub bounds-stages-progress : goal.bounds-stages-progress
 bounds-stages-progress c =
@@ -54,30 +50,23 @@ make_instead-requires-clause-can c =
     let whole : IsWhole c.args.board.now.state = rw c.state.ensures.value at (c.state.ensures.whole c.requires.unspoiled) in
     rw c.state.ensures.value (can_best c.args.board.now.state whole c.args.stages.now _ c.requires.stages c.requires.same c.in_ok-progress.progress c.try_each.new.board c.in_ok-progress.ensures c.index-stages-progress.result c.index-stages-progress.is c.index-stages-progress-then-progress.result c.index-stages-progress-then-progress.is)
 
-pub returns-then-stays_made-clause-turn : goal.returns-then-stays_made-clause-turn
-returns-then-stays_made-clause-turn c =
+pub returns-in_ok-make_instead-clause-turn : goal.returns-in_ok-make_instead-clause-turn
+returns-in_ok-make_instead-clause-turn c =
     let s = c.args.board.now.state in
     let whole : IsWhole s = rw c.state.ensures.value at (c.state.ensures.whole c.requires.unspoiled) in
     let progress = c.in_ok-progress.progress in
     let below : is_below c.args.fewer (left_after s progress.best.mv) ≡ true = ap (is_below c.args.fewer) (sym c.in_ok-progress.ensures.left) ∙ (sym c.is_below-is_best.ensures ∙ c.stays_made.ensures.best c.if-stays_made.true) in
-    let made : c.if-progress.board ≡ after (applied s progress.best.mv) = elim c.if-progress.branch [
-      | then-progress+in_ok-make_instead w ↦ w.board-is ∙ makes_best s whole c.args.stages.now _ c.requires.stages c.requires.same progress c.try_each.new.board c.in_ok-progress.ensures c.index-stages-progress.result c.index-stages-progress.is w.index-stages-progress-then-progress.result w.index-stages-progress-then-progress.is w.make_instead.new.board (rw c.state.ensures.value at w.in_ok-make_instead.ensures)
-      | else-progress w ↦ w.board-is ∙ stands_best s whole c.args.stages.now _ c.requires.stages c.requires.same progress c.try_each.new.board c.in_ok-progress.ensures w.if-progress.false
-    ] in
-    let stages = c.args.stages.now in
-    let P : RepairMove → Type 0 = IsFewestBelow s (map move_of stages) c.args.fewer in
-    let within = place_within s whole stages _ c.requires.stages c.requires.same progress c.try_each.new.board c.in_ok-progress.ensures in
-    let best : P progress.best.mv = (c.in_ok-progress.ensures.best, below) in (
-      within,
-      λ t there.
-          let at : t ≡ get_or stages progress.place t = cc (there, slice_get-get_or stages progress.place t within) in
-          let is = best_at s whole stages _ c.requires.stages c.requires.same progress c.try_each.new.board c.in_ok-progress.ensures t at in (
-            c.stays_made.ensures.mends c.if-stays_made.true,
-            subst P (sym is) best,
-            made ∙ ap (λ (m : RepairMove). after (applied s m)) (sym is),
-            stage_at s whole stages _ c.requires.stages c.requires.same progress c.try_each.new.board c.in_ok-progress.ensures t at,
-          ),
-    )
+    let made : c.make_instead.new.board ≡ after (applied s progress.best.mv) = makes_best s whole c.args.stages.now _ c.requires.stages c.requires.same progress c.try_each.new.board c.in_ok-progress.ensures c.index-stages-progress.result c.index-stages-progress.is c.index-stages-progress-then-progress.result c.index-stages-progress-then-progress.is c.make_instead.new.board (rw c.state.ensures.value at c.in_ok-make_instead.ensures) in
+    turn_made c.args.purpose c.args.fewer c.args.board.now whole c.args.stages.now _ c.requires.stages c.requires.same progress c.try_each.new.board c.in_ok-progress.ensures c.make_instead.new.board (c.stays_made.ensures.mends c.if-stays_made.true) below made
+
+pub returns-else-progress-clause-turn : goal.returns-else-progress-clause-turn
+returns-else-progress-clause-turn c =
+    let s = c.args.board.now.state in
+    let whole : IsWhole s = rw c.state.ensures.value at (c.state.ensures.whole c.requires.unspoiled) in
+    let progress = c.in_ok-progress.progress in
+    let below : is_below c.args.fewer (left_after s progress.best.mv) ≡ true = ap (is_below c.args.fewer) (sym c.in_ok-progress.ensures.left) ∙ (sym c.is_below-is_best.ensures ∙ c.stays_made.ensures.best c.if-stays_made.true) in
+    let made : c.try_each.new.board ≡ after (applied s progress.best.mv) = stands_best s whole c.args.stages.now _ c.requires.stages c.requires.same progress c.try_each.new.board c.in_ok-progress.ensures c.if-progress.false in
+    turn_made c.args.purpose c.args.fewer c.args.board.now whole c.args.stages.now _ c.requires.stages c.requires.same progress c.try_each.new.board c.in_ok-progress.ensures c.try_each.new.board (c.stays_made.ensures.mends c.if-stays_made.true) below made
 
 pub returns-then-is_best-clause-turn : goal.returns-then-is_best-clause-turn
 returns-then-is_best-clause-turn c =

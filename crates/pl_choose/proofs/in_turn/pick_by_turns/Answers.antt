@@ -16,5 +16,5 @@ returns-in-Some-Made-clause-picked c =
 pub returns-in-Some-Found-clause-picked : goal.returns-in-Some-Found-clause-picked
 returns-in-Some-Found-clause-picked c = rw (c.in-Some-Found.is, c.in-Some-Found.field-0-is, c.deref.ensures.value) at c.in_ok-place.ensures.turn
 
-pub returns-in-None-clause-picked : goal.returns-in-None-clause-picked
-returns-in-None-clause-picked c = rw c.in-None.is at c.in_ok-place.ensures.turn
+pub returns-clause-picked : goal.returns-clause-picked
+returns-clause-picked c = rw c.in-None.is at c.in_ok-place.ensures.turn
