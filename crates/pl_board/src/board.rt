@@ -31,7 +31,7 @@ macro_rules! guarded {
         if $board.spoiled {
             return Err(AllocError);
         }
-        $board.memory = Memory::new();
+        $board.memory = Memory::new($board.alloc);
         $board.spoiled = true;
         $change?;
         $board.spoiled = false;
@@ -85,7 +85,7 @@ impl Board {
         Ok(Board {
             alloc,
             watched,
-            memory: Memory::new(),
+            memory: Memory::new(alloc),
             spoiled: false,
         })
     }
@@ -265,7 +265,7 @@ impl Board {
         Ok(Board {
             alloc,
             watched: self.watched.copy(alloc)?,
-            memory: Memory::new(),
+            memory: Memory::new(alloc),
             spoiled: false,
         })
     }

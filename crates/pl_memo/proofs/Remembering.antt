@@ -22,14 +22,13 @@ use Rattle.pl_memo.specs.declared.difference.Difference.{Difference}
 use Rattle.pl_memo.specs.declared.memory.Answer.{Answer}
 use Rattle.pl_memo.specs.declared.memory.Memory.{Memory}
 use Rattle.pl_memo.specs.Differences.{CanLeave, IsChangedBy, no_difference}
-use Rattle.pl_memo.specs.Memories.{AreProper, AreRemembered, Holds, HoldsIfAny, IsFewestAt, IsMadeFrom, alone, going, nothing}
+use Rattle.pl_memo.specs.Memories.{AreProper, AreRemembered, Holds, IsFewestAt, IsMadeFrom, alone, going, nothing}
 use Rattle.pl_memo.proofs.Changing.{after_replacement, none_differs}
 
 -- ---- the next id
 
-holds_next : (s : PlanState) (n : ℕ) (o : Option Answer) → HoldsIfAny s o → HoldsIfAny (with_next n s) o
-holds_next s n None h = tt
-holds_next s n (Some a) h = record {
+holds_next : (s : PlanState) (n : ℕ) (a : Answer) → Holds s a → Holds (with_next n s) a
+holds_next s n a h = record {
   before = h.before;
   whole = h.whole;
   beside = record { model = h.beside.model; goals = h.beside.goals; bases = h.beside.bases; moment = h.beside.moment; committed = h.beside.committed; limit = h.beside.limit };
@@ -39,7 +38,7 @@ holds_next s n (Some a) h = record {
 }
 
 pub remembered_next : (s : PlanState) (n : ℕ) (m : Memory) → AreRemembered s m → AreRemembered (with_next n s) m
-remembered_next s n m h = record { newest = holds_next s n m.newest h.newest; second = holds_next s n m.second h.second; third = holds_next s n m.third h.third }
+remembered_next s n m h = λ k d lt. holds_next s n _ (h k d lt)
 
 -- ---- what leaves, as it stands
 
@@ -124,7 +123,7 @@ holds_after s t left more a d made h changed =
 -- ---- a memory
 
 pub none_remembered : (s : PlanState) (m : Memory) → m ≡ nothing → AreRemembered s m
-none_remembered s m is = subst (λ (n : Memory). AreRemembered s n) (sym is) (record { newest = tt; second = tt; third = tt })
+none_remembered s m is = subst (λ (n : Memory). AreRemembered s n) (sym is) (All-nil (Holds s))
 
 -- what a change makes of a memory holds after a replacement in which each id that goes is named once
 pub remembered_after : (s : PlanState) (gone : List ℕ) (more : List Activity) (m n : Memory) → IsWhole s → AreOnce gone → CanReplace s gone more

@@ -1,5 +1,5 @@
 -- Choices that are remembered, and the states in which their answers hold.
-use Rattle.std.specs.Prelude.{◌≡◌, ◌<◌, ℕ, true, List, [], ◌∷◌, ◌++◌, map, length, All, Option, None, IfSome}
+use Rattle.std.specs.Prelude.{◌≡◌, ◌<◌, ℕ, true, List, [], ◌∷◌, ◌++◌, map, length, All}
 use Rattle.pl_plan.specs.declared.activity.Activity.{Activity}
 use Rattle.pl_plan.specs.declared.repair.RepairMove.{RepairMove}
 use Rattle.pl_plan.specs.Activities.{activity_of}
@@ -40,17 +40,13 @@ pub record Holds (s : PlanState) (a : Answer) : Type 0 where
   pub proper : AreProper before a.moves
   pub fewest : IsFewestAt before a.moves a.place
 
-abbrev pub HoldsIfAny : PlanState → Option Answer → Type 0
-HoldsIfAny s o = IfSome o (Holds s)
-
-pub record AreRemembered (s : PlanState) (m : Memory) : Type 0 where
-  pub newest : HoldsIfAny s m.newest
-  pub second : HoldsIfAny s m.second
-  pub third : HoldsIfAny s m.third
+-- all that is remembered holds in this state
+abbrev pub AreRemembered : PlanState → Memory → Type 0
+AreRemembered s m = All (Holds s) m.answers
 
 -- nothing is remembered
 abbrev pub nothing : Memory
-nothing = record { newest = None; second = None; third = None }
+nothing = record { answers = [] }
 
 -- ---- changes of the plan
 

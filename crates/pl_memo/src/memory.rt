@@ -1,8 +1,8 @@
 //! A memory of choices: which of some moves leaves the fewest conflicts.
-ghost use Rattle.std.specs.Prelude.{◌≡◌, IfOk, IfSome};
+ghost use Rattle.std.specs.Prelude.{◌≡◌, ◌==◌, All, length, IfOk, IfSome};
 ghost use Rattle.pl_semantics.specs.declared.plan_state.PlanState.{PlanState};
 ghost use Rattle.pl_semantics.specs.Whole.{IsWhole};
-ghost use Rattle.pl_memo.specs.Memories.{AreProper, AreRemembered, Holds, HoldsIfAny, IsFewestAt, IsMadeFrom, WasFewestAt, nothing};
+ghost use Rattle.pl_memo.specs.Memories.{AreProper, AreRemembered, Holds, IsFewestAt, IsMadeFrom, WasFewestAt, nothing};
 
 use crate::difference::Difference;
 use crate::noting::changed;
@@ -15,6 +15,9 @@ use std::alloc::{AllocError, Global};
 // An answer is forgotten once more activities than this are gone since it was given, or once more than this have come.
 const MOST: usize = 8;
 
+// So many answers are remembered.
+const ANSWERS: usize = 3;
+
 /// Of these moves, the one at this place was the first that leaves the fewest conflicts, in an earlier plan. `since` is how the plan
 /// differs from that one.
 #[derive(Drop)]
@@ -24,12 +27,10 @@ pub struct Answer {
     pub place: usize,
 }
 
-/// The last three answers. A planner that goes to and fro between two plans, or among three, meets each of them again.
+/// The last three answers, the newest first. A planner that goes to and fro between two plans, or among three, meets each of them again.
 #[derive(Drop)]
 pub struct Memory {
-    pub newest: Option<Answer>,
-    pub second: Option<Answer>,
-    pub third: Option<Answer>,
+    pub answers: Items<Answer>,
 }
 
 impl Answer {
@@ -93,13 +94,13 @@ impl Answer {
 // An answer after a change of the plan, unless it is no longer near or memory is wanting.
 fn kept(
     alloc: Global,
-    answer: Option<Answer>,
+    answer: Answer,
     left: &[Activity],
     more: &[Activity],
 ) -> Option<Answer>
-    ensures { (s t : PlanState) → IsMadeFrom s t left.now more.now → HoldsIfAny s answer → HoldsIfAny t result }
+    ensures { (s t : PlanState) → IsMadeFrom s t left.now more.now → Holds s answer → IfSome result (Holds t) }
 {
-    let Ok(changed) = answer?.changed(alloc, left, more) else {
+    let Ok(changed) = answer.changed(alloc, left, more) else {
         return None;
     };
     if changed.is_near() {
@@ -109,28 +110,49 @@ fn kept(
     }
 }
 
-fn place_if_any(answer: &Option<Answer>, s: &PlanState, moves: &[RepairMove]) -> Option<usize>
-    requires whole { IsWhole s.now }
-    requires holds { HoldsIfAny s.now answer.now }
-    requires proper { AreProper s.now moves.now }
-    ensures { IfSome result (IsFewestAt s.now moves.now) }
+// The answers after a change of the plan.
+fn all_kept(
+    alloc: Global,
+    answers: Items<Answer>,
+    left: &[Activity],
+    more: &[Activity],
+) -> Result<Items<Answer>, AllocError>
+    ensures { IfOk result (λ all. (s t : PlanState) → IsMadeFrom s t left.now more.now → All (Holds s) answers → All (Holds t) all) }
 {
-    match answer {
-        Some(answer) => answer.place_for(s, moves),
-        None => None,
+    let mut all = Vec::with_capacity(alloc, answers.len())?;
+    for answer in answers.into_vec() {
+        if let Some(near) = kept(alloc, answer, left, more) {
+            all.push(near)?;
+        }
     }
+    Ok(Items::from_vec(all))
+}
+
+// The answers with a newer one, in the place of the oldest if they are as many as are remembered.
+fn in_front(answers: Items<Answer>, newest: Answer) -> Result<Items<Answer>, AllocError>
+    ensures { IfOk result (λ all. (s : PlanState) → Holds s newest → All (Holds s) answers → All (Holds s) all) }
+{
+    let mut list = answers.into_vec();
+    list.truncate(ANSWERS - 1);
+    list.insert(0, newest)?;
+    Ok(Items::from_vec(list))
 }
 
 impl Memory {
     /// A memory of nothing.
-    pub fn new() -> Memory
+    pub fn new(alloc: Global) -> Memory
         ensures { result ≡ nothing }
     {
         Memory {
-            newest: None,
-            second: None,
-            third: None,
+            answers: Items::new(alloc),
         }
+    }
+
+    /// Whether nothing is remembered.
+    pub fn is_empty(&self) -> bool
+        ensures { result ≡ (length self.now.answers == 0) }
+    {
+        self.answers.is_empty()
     }
 
     /// The place of the first of these moves that leaves the fewest conflicts, if it is remembered.
@@ -140,34 +162,31 @@ impl Memory {
         requires proper { AreProper s.now moves.now }
         ensures { IfSome result (IsFewestAt s.now moves.now) }
     {
-        if let Some(place) = place_if_any(&self.newest, s, moves) {
-            return Some(place);
+        for answer in self.answers.as_slice() {
+            if let Some(place) = answer.place_for(s, moves) {
+                return Some(place);
+            }
         }
-        if let Some(place) = place_if_any(&self.second, s, moves) {
-            return Some(place);
-        }
-        place_if_any(&self.third, s, moves)
+        None
     }
 
     /// What is remembered once some activities have left the plan and others have come in their places.
     pub fn changed(self, alloc: Global, left: &[Activity], more: &[Activity]) -> Memory
         ensures { (s t : PlanState) → IsMadeFrom s t left.now more.now → AreRemembered s self → AreRemembered t result }
     {
-        Memory {
-            newest: kept(alloc, self.newest, left, more),
-            second: kept(alloc, self.second, left, more),
-            third: kept(alloc, self.third, left, more),
+        match all_kept(alloc, self.answers, left, more) {
+            Ok(answers) => Memory { answers },
+            Err(_) => Memory::new(alloc),
         }
     }
 
-    // With a newer answer, in the place of the oldest one.
-    fn with(self, newest: Option<Answer>) -> Memory
-        ensures { (s : PlanState) → HoldsIfAny s newest → AreRemembered s self → AreRemembered s result }
+    // With a newer answer, or without any where memory is wanting.
+    fn with(self, alloc: Global, newest: Answer) -> Memory
+        ensures { (s : PlanState) → Holds s newest → AreRemembered s self → AreRemembered s result }
     {
-        Memory {
-            newest,
-            second: self.newest,
-            third: self.second,
+        match in_front(self.answers, newest) {
+            Ok(answers) => Memory { answers },
+            Err(_) => Memory::new(alloc),
         }
     }
 
@@ -176,7 +195,7 @@ impl Memory {
         ensures { (s : PlanState) → IsWhole s → AreProper s moves.now → IsFewestAt s moves.now place → AreRemembered s self → AreRemembered s result }
     {
         match Answer::new(alloc, moves, place) {
-            Ok(answer) => self.with(Some(answer)),
+            Ok(answer) => self.with(alloc, answer),
             Err(_) => self,
         }
     }
@@ -192,9 +211,12 @@ impl Memory {
     ) -> Memory
         ensures { (s : PlanState) → WasFewestAt s left.now more.now moves.now place → AreRemembered s self → AreRemembered s result }
     {
-        match Answer::new(alloc, moves, place) {
-            Ok(answer) => self.with(kept(alloc, Some(answer), left, more)),
-            Err(_) => self,
+        let Ok(answer) = Answer::new(alloc, moves, place) else {
+            return self;
+        };
+        match kept(alloc, answer, left, more) {
+            Some(near) => self.with(alloc, near),
+            None => self,
         }
     }
 }

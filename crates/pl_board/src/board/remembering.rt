@@ -18,13 +18,16 @@ impl Board {
         ensures same { self.new ≡ self.old }
         ensures remembered { self.old.spoiled ≡ false → AreRemembered (with_plan gone.now placed.now self.old.state) result }
     {
-        let memory = mem::replace(&mut self.memory, Memory::new());
+        let memory = mem::replace(&mut self.memory, Memory::new(self.alloc));
+        if memory.is_empty() {
+            return memory;
+        }
         if !are_rising(gone) {
-            return Memory::new();
+            return Memory::new(self.alloc);
         }
         match going(self.alloc, &self.watched.state.plan, gone) {
             Ok(left) => memory.changed(self.alloc, &left, placed),
-            Err(_) => Memory::new(),
+            Err(_) => Memory::new(self.alloc),
         }
     }
 
@@ -44,7 +47,7 @@ impl Board {
         requires fewest { IsFewestAt self.old.state moves.now place }
         ensures { self.new ≡ self.old }
     {
-        let memory = mem::replace(&mut self.memory, Memory::new());
+        let memory = mem::replace(&mut self.memory, Memory::new(self.alloc));
         self.memory = memory.remember(self.alloc, moves, place);
     }
 
@@ -60,7 +63,7 @@ impl Board {
         requires fewest { WasFewestAt self.old.state left.now more.now moves.now place }
         ensures { self.new ≡ self.old }
     {
-        let memory = mem::replace(&mut self.memory, Memory::new());
+        let memory = mem::replace(&mut self.memory, Memory::new(self.alloc));
         self.memory = memory.remember_before(self.alloc, left, more, moves, place);
     }
 }
