@@ -40,7 +40,7 @@ macro_rules! guarded {
 }
 
 /// A plan state with its conflicts, which are mended near each change. After want of memory a board is spoiled for good. It also
-/// remembers choices, which no contract speaks of.
+/// remembers choices; no contract says which.
 #[derive(Drop)]
 pub struct Board {
     alloc: Global,

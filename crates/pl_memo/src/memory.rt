@@ -1,5 +1,5 @@
 //! A memory of choices: which of some moves leaves the fewest conflicts.
-ghost use Rattle.std.specs.Prelude.{◌≡◌, ◌==◌, All, length, IfOk, IfSome};
+ghost use Rattle.std.specs.Prelude.{◌≡◌, ◌==◌, ◌≤◌, All, length, IfOk, IfSome};
 ghost use Rattle.pl_semantics.specs.declared.plan_state.PlanState.{PlanState};
 ghost use Rattle.pl_semantics.specs.Whole.{IsWhole};
 ghost use Rattle.pl_memo.specs.Memories.{AreProper, AreRemembered, Holds, IsFewestAt, IsMadeFrom, WasFewestAt, nothing};
@@ -15,7 +15,7 @@ use std::alloc::{AllocError, Global};
 // An answer is forgotten once more activities than this are gone since it was given, or once more than this have come.
 const MOST: usize = 8;
 
-// So many answers are remembered.
+// At most so many answers are remembered.
 const ANSWERS: usize = 3;
 
 /// Of these moves, the one at this place was the first that leaves the fewest conflicts, in an earlier plan. `since` is how the plan
@@ -114,7 +114,7 @@ fn all_kept(
 ) -> Result<Items<Answer>, AllocError>
     ensures { IfOk result (λ all. (s t : PlanState) → IsMadeFrom s t left.now more.now → All (Holds s) answers → All (Holds t) all) }
 {
-    let mut all = Vec::with_capacity(alloc, answers.len())?;
+    let mut all = Vec::with_capacity(alloc, ANSWERS)?;
     for answer in answers.into_vec() {
         if let Some(near) = kept(alloc, answer, left, more) {
             all.push(near)?;
@@ -123,9 +123,10 @@ fn all_kept(
     Ok(Items::from_vec(all))
 }
 
-// The answers with a newer one, in the place of the oldest if they are as many as are remembered.
+// A newer answer, and the others behind it. The oldest is left out where they would be more than are remembered.
 fn in_front(answers: Items<Answer>, newest: Answer) -> Result<Items<Answer>, AllocError>
-    ensures { IfOk result (λ all. (s : PlanState) → Holds s newest → All (Holds s) answers → All (Holds s) all) }
+    ensures hold { IfOk result (λ all. (s : PlanState) → Holds s newest → All (Holds s) answers → All (Holds s) all) }
+    ensures few { IfOk result (λ all. length all ≤ 3) }
 {
     let mut list = answers.into_vec();
     list.truncate(ANSWERS - 1);
@@ -175,7 +176,7 @@ impl Memory {
         }
     }
 
-    // With a newer answer, or without any where memory is wanting.
+    // With a newer answer in front. Where memory is wanting, nothing is remembered.
     fn with(self, alloc: Global, newest: Answer) -> Memory
         ensures { (s : PlanState) → Holds s newest → AreRemembered s self → AreRemembered s result }
     {
@@ -185,7 +186,8 @@ impl Memory {
         }
     }
 
-    /// Remembers the place of the first of these moves that leaves the fewest conflicts. Where memory is wanting, it is not remembered.
+    /// Remembers the place of the first of these moves that leaves the fewest conflicts. Where memory is wanting, it is
+    /// not remembered, and the others may be forgotten.
     pub fn remember(self, alloc: Global, moves: &[RepairMove], place: usize) -> Memory
         ensures { (s : PlanState) → IsWhole s → AreProper s moves.now → IsFewestAt s moves.now place → AreRemembered s self → AreRemembered s result }
     {

@@ -40,7 +40,8 @@ impl Board {
         self.memory.recall(&self.watched.state, moves)
     }
 
-    /// Remembers the place of the first of these moves that leaves the fewest conflicts. Where memory is wanting, it is not remembered.
+    /// Remembers the place of the first of these moves that leaves the fewest conflicts. Where memory is wanting, it is
+    /// not remembered, and the others may be forgotten.
     pub fn remember(&mut self, moves: &[RepairMove], place: usize)
         requires unspoiled { self.old.spoiled ≡ false }
         requires proper { AreProper self.old.state moves.now }
