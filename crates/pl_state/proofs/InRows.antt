@@ -1,10 +1,10 @@
 -- A list in rows, its places, and searches in it.
 use Rattle.std.proofs.Common.{◌≡◌, ℕ, zero, suc, ◌+◌, ◌-◌, ◌<◌, ◌≤◌, Bool, true, false, not, cond, min, List, [], ◌∷◌, ◌++◌, length, take, drop, get_or, set, refl, ap, sym, ◌∙◌, subst, arith, leb, Some, None}
 use Rattle.std.proofs.lemmas.Bool.{true≢false, ltb-false, le-ltb, leb-false, leb-true}
-use Rattle.std.proofs.lemmas.List.{append_assoc, append-nil, take-append-drop, set_split, length-append, length-take, length-drop, take-append-le, drop-append-le, take_all, drop_all, get_or_default}
+use Rattle.std.proofs.lemmas.List.{append_assoc, append-nil, take-append-drop, set_split, length-append, length-take, length-drop, take-append-le, drop-append-le, take_all, drop_all, take_rest, get_or_default}
 use Rattle.std.specs.List.{slice_get}
 use Rattle.pl_lists.specs.Lists.{front, back}
-use Rattle.pl_points.proofs.Parting.{NonePass, IsParted, back_fails, drop_next}
+use Rattle.pl_points.proofs.Parting.{NonePass, IsParted, back_fails, drop_next, last_passing}
 use Rattle.pl_state.specs.declared.key.Key.{Key}
 use Rattle.pl_state.specs.declared.bound.Bound.{Bound}
 use Rattle.pl_state.specs.declared.bound.Bound.TheVariants.{Before, UpTo, Earlier, By}
@@ -75,14 +75,15 @@ put_filled rs new r row at u filled made =
     subst AreFilled (sym made) (filled_set row rs (take at r ++ u ∷ drop at r) some filled)
 
 -- one item less in a row
-pub gone_there : {T : Type 0} (rs : List (List T)) (place row at : ℕ) → IsSpot rs (suc place) row (suc at) → together (take row rs) ++ ((take at (get_or rs row []) ++ drop (suc at) (get_or rs row [])) ++ together (drop (suc row) rs)) ≡ take place (together rs) ++ drop (suc place) (together rs)
-gone_there rs place row at spot =
+pub gone_there : {T : Type 0} (rs l : List (List T)) (place row at : ℕ) → l ≡ rs → IsSpot l place row at → place < length (together rs) → together (take row rs) ++ ((take at (get_or rs row []) ++ drop (suc at) (get_or rs row [])) ++ together (drop (suc row) rs)) ≡ take place (together rs) ++ drop (suc place) (together rs)
+gone_there rs l place row at same found lt =
+    let spot : IsSpot rs place row at = subst (λ k. IsSpot k place row at) same found in
     let r = get_or rs row [] in
     let before = together (take row rs) in
     let behind = together (drop (suc row) rs) in
     let whole = in_row row rs r spot.there (get_or_default rs row [] r spot.there) in
-    let p = cut_there before r behind at place (omega (arith, spot.low)) (omega (arith, spot.whole)) in
-    let q = cut_there before r behind (suc at) (suc place) spot.low spot.whole in
+    let p = cut_there before r behind at place spot.low spot.whole in
+    let q = cut_there before r behind (suc at) (suc place) (omega (arith, spot.inside lt)) (omega (arith, spot.whole)) in
     regroup before (take at r) (drop (suc at) r) behind ∙ (ap (λ l. l ++ (drop (suc at) r ++ behind)) (sym p.0 ∙ ap (take place) (sym whole)) ∙ ap (λ l. take place (together rs) ++ l) (sym q.1 ∙ ap (drop (suc place)) (sym whole)))
 
 get_there : {T : Type 0} (before r behind : List T) (at n : ℕ) (d : T) → at < length r → length before + at ≡ n → get_or (before ++ (r ++ behind)) n d ≡ get_or r at d
@@ -95,10 +96,24 @@ get_there [] (x ∷ r) behind (suc at) (suc n) d lt is = get_there [] r behind a
 get_there (x ∷ before) r behind at zero d lt is = absurd (omega (arith, is))
 get_there (x ∷ before) r behind at (suc n) d lt is = get_there before r behind at n d lt (omega (arith, is))
 
-pub read_there : {T : Type 0} (rs : List (List T)) (r : List T) (place row at : ℕ) (x : T) → IsSpot rs (suc place) row (suc at) → r ≡ get_or rs row r → x ≡ get_or r at x → x ≡ get_or (together rs) place x
-read_there rs r place row at x spot is read =
-    let low : suc at ≤ length r = subst (λ l. suc at ≤ length l) (get_or_default rs row [] r spot.there ∙ sym is) spot.low in
-    read ∙ sym (ap (λ l. get_or l place x) (in_row row rs r spot.there is) ∙ get_there (together (take row rs)) r (together (drop (suc row) rs)) at place x (omega (arith, low)) (omega (arith, spot.whole)))
+-- the item at a place of a row
+inside_row : {T : Type 0} (rs : List (List T)) (r : List T) (place row at : ℕ) → IsSpot rs place row at → place < length (together rs) → r ≡ get_or rs row r → at < length r
+inside_row rs r place row at spot lt is = subst (λ l. at < length l) (get_or_default rs row [] r spot.there ∙ sym is) (spot.inside lt)
+
+pub read_there : {T : Type 0} (rs l : List (List T)) (r : List T) (place row at : ℕ) (x : T) → l ≡ rs → IsSpot l place row at → place < length (together rs) → r ≡ get_or rs row r → x ≡ get_or r at x → x ≡ get_or (together rs) place x
+read_there rs l r place row at x same found lt is read =
+    let spot : IsSpot rs place row at = subst (λ k. IsSpot k place row at) same found in
+    read ∙ sym (ap (λ l. get_or l place x) (in_row row rs r spot.there is) ∙ get_there (together (take row rs)) r (together (drop (suc row) rs)) at place x (inside_row rs r place row at spot lt is) spot.whole)
+
+-- the items of the row from there on
+pub rest_there : {T : Type 0} (rs l : List (List T)) (r : List T) (place row at : ℕ) → l ≡ rs → IsSpot l place row at → place < length (together rs) → r ≡ get_or rs row r → (0 < length (drop at r)) × (drop at r ≡ take (length (drop at r)) (drop place (together rs)))
+rest_there rs l r place row at same found lt is =
+    let spot : IsSpot rs place row at = subst (λ k. IsSpot k place row at) same found in
+    let behind = together (drop (suc row) rs) in
+    let some : at < length r = inside_row rs r place row at spot lt is in
+    let cut : drop place (together rs) ≡ drop at r ++ behind = ap (drop place) (in_row row rs r spot.there is) ∙ (cut_there (together (take row rs)) r behind at place (omega (arith, some)) spot.whole).1 in
+    let whole : take (length (drop at r)) (drop at r ++ behind) ≡ drop at r = take-append-le (length (drop at r)) (drop at r) behind (omega arith) ∙ take_all (length (drop at r)) (drop at r) (omega arith) in
+    (omega (arith, some, length-drop at r), sym (ap (take (length (drop at r))) cut ∙ whole))
 
 -- two halves of a row
 pub split_there : {T : Type 0} (rs new : List (List T)) (r b : List T) (row half : ℕ) → row < length rs → r ≡ get_or rs row r → b ≡ drop half r → new ≡ set (take (suc row) rs ++ b ∷ drop (suc row) rs) row (take half r) → together new ≡ together rs
@@ -118,41 +133,47 @@ read_split [] b x row lt is = absurd (omega (arith, lt))
 read_split (r ∷ rs) b x zero lt is = is
 read_split (r ∷ rs) b x (suc row) lt is = read_split rs b x row (omega (arith, lt)) is
 
--- the row of a place is sought
-pub record IsNear {T : Type 0} (rows : List (List T)) (place row at : ℕ) : Type 0 where
+-- the row of a place is sought: so many items of the rows up to this one stand from the place on
+pub record IsNear {T : Type 0} (rows : List (List T)) (place row behind : ℕ) : Type 0 where
   pub there : row < length rows
-  pub rest : at ≤ length (together (drop row rows))
-  pub whole : length (together (take row rows)) + at ≡ place
-  pub later : 0 < place → 0 < at
+  pub whole : place + behind ≡ length (together (take (suc row) rows))
+  pub later : place < length (together rows) → 0 < behind
+
+pub all_behind : {T : Type 0} (rs : List (List T)) (count place row : ℕ) → 0 < length rs → count ≡ length (together rs) → place ≤ length (together rs) → row ≡ length rs - 1 → IsNear rs place row (count - place)
+all_behind rs count place row some counted bound is =
+    let whole : take (suc row) rs ≡ rs = take_all (suc row) rs (omega (arith, some, is)) in
+    record {
+      there = omega (arith, some, is);
+      whole = omega (arith, counted, bound, ap (λ l. length (together l)) whole);
+      later = λ lt. omega (arith, lt, counted);
+    }
 
 next_taken : {T : Type 0} (row : ℕ) (rs : List (List T)) (r : List T) → row < length rs → r ≡ get_or rs row r → length (together (take (suc row) rs)) ≡ length (together (take row rs)) + length r
 next_taken row [] r lt is = absurd (omega (arith, lt))
 next_taken zero (x ∷ rs) r lt is = omega (arith, ap length is, length-append x [])
 next_taken (suc row) (x ∷ rs) r lt is = omega (arith, next_taken row rs r (omega (arith, lt)) is, length-append x (together (take (suc row) rs)), length-append x (together (take row rs)))
 
-pub next_row : {T : Type 0} (rs : List (List T)) (r : List T) (place row at : ℕ) → IsNear rs place row at → r ≡ get_or rs row r → length r < at → IsNear rs place (suc row) (at - length r)
-next_row {T} rs r place row at near is lt =
-    let next : drop row rs ≡ r ∷ drop (suc row) rs = drop_next rs row r near.there ∙ ap (λ l. l ∷ drop (suc row) rs) (sym is) in
-    let count : length (together (drop row rs)) ≡ length r + length (together (drop (suc row) rs)) = ap (λ l. length (together l)) next ∙ length-append r (together (drop (suc row) rs)) in
-    let more : 0 < length (together (drop (suc row) rs)) = omega (arith, count, near.rest, lt) in
-    record {
-      there = there more (drop (suc row) rs) refl;
-      rest = omega (arith, count, near.rest);
-      whole = omega (arith, next_taken row rs r near.there is, near.whole, lt);
+-- the row before
+pub row_before : {T : Type 0} (rs : List (List T)) (r : List T) (place row behind : ℕ) → IsNear rs place row behind → r ≡ get_or rs row r → length r < behind → (0 < row) × IsNear rs place (row - 1) (behind - length r)
+row_before rs r place zero behind near is lt = absurd (omega (arith, near.whole, next_taken 0 rs r near.there is, lt))
+row_before rs r place (suc row) behind near is lt =
+    let prior : suc row - 1 ≡ row = omega arith in
+    let here : IsNear rs place row (behind - length r) = record {
+      there = omega (arith, near.there);
+      whole = omega (arith, near.whole, next_taken (suc row) rs r near.there is, lt);
       later = λ h. omega (arith, lt);
-    }
-  where
-    there : 0 < length (together (drop (suc row) rs)) → (l : List (List T)) → drop (suc row) rs ≡ l → suc row < length rs
-    there more [] e = absurd (omega (arith, more, ap (λ q. length (together q)) e))
-    there more (x ∷ l) e = omega (arith, length-drop (suc row) rs, ap length e)
+    } in
+    (omega arith, subst (λ n. IsNear rs place n (behind - length r)) (sym prior) here)
 
--- the spot behind an item
-pub spot_behind : {T : Type 0} (rs l : List (List T)) (place row at : ℕ) → l ≡ rs → IsSpot l (place + 1) row at → IsSpot rs (suc place) row (suc (at - 1))
-spot_behind rs l place row at same spot =
-    let some : 0 < at = spot.later (omega arith) in
-    let is : at ≡ suc (at - 1) = omega (arith, some) in
-    let next : place + 1 ≡ suc place = omega arith in
-    subst (λ k. IsSpot k (suc place) row (suc (at - 1))) same (subst (λ n. IsSpot l n row (suc (at - 1))) next (subst (λ m. IsSpot l (place + 1) row m) is spot))
+pub spot_found : {T : Type 0} (rs : List (List T)) (r : List T) (place row behind : ℕ) → IsNear rs place row behind → r ≡ get_or rs row r → behind ≤ length r → IsSpot rs place row (length r - behind)
+spot_found rs r place row behind near is le =
+    let same : r ≡ get_or rs row [] = is ∙ get_or_default rs row r [] near.there in
+    record {
+      there = near.there;
+      low = omega (arith, ap length same);
+      whole = omega (arith, near.whole, next_taken row rs r near.there is, le);
+      inside = λ lt. omega (arith, near.later lt, le, ap length same);
+    }
 
 pub one_less : {T : Type 0} (xs new : List T) (place : ℕ) → place < length xs → new ≡ take place xs ++ drop (suc place) xs → length xs ≡ length new + 1
 one_less xs new place lt is = omega (arith, lt, ap length is, length-append (take place xs) (drop (suc place) xs), length-take place xs, length-drop (suc place) xs)
@@ -268,6 +289,17 @@ pass_rows {T} p (r ∷ rs) parted = cases (last_passes p r) refl (pass_rows p rs
         (all.0 ∙ (ap (λ l. r ++ l) more.0 ∙ sym (append_assoc r (together (front (last_passes p) rs)) (front p (together (back (last_passes p) rs))))), all.1 ∙ more.1)
     cases false f more = (refl, refl)
 
+pub none_from : {T : Type 0} (p : T → Bool) (xs : List T) (x : T) (i : ℕ) → i < length xs → x ≡ get_or xs i x → p x ≡ false → NonePass p (drop (suc i) xs) → NonePass p (drop i xs)
+none_from p xs x i lt is fails none = subst (NonePass p) (sym (drop_next xs i x lt)) (subst (λ y. p y ≡ false) is fails, none)
+
+pub passing_from : {X : Type 0} (p : X → Bool) (xs : List X) (x : X) (k : ℕ) → IsParted p xs → 0 < k → k ≤ length xs → x ≡ get_or xs (k - 1) x → p x ≡ true → NonePass p (drop k xs) → (take k xs ≡ front p xs) × (drop k xs ≡ back p xs)
+passing_from p xs x k parted some le is passes none =
+    let up : k ≡ suc (k - 1) = omega (arith, some) in
+    let behind : NonePass p (drop (suc (k - 1)) xs) = subst (λ n. NonePass p (drop n xs)) up none in
+    let here : p (get_or xs (k - 1) x) ≡ true = ap p (sym is) ∙ passes in
+    let both = last_passing p (k - 1) x xs parted (omega (arith, some, le)) here (λ lt. (subst (NonePass p) (drop_next xs (suc (k - 1)) x lt) behind).0) in
+    subst (λ n. (take n xs ≡ front p xs) × (drop n xs ≡ back p xs)) (sym up) both
+
 -- where a search ends
 pub record IsCut {T : Type 0} (p : T → Bool) (xs : List T) (n : ℕ) : Type 0 where
   pub bound : n ≤ length xs
@@ -320,13 +352,16 @@ counted_at_end key b rs l xs row n same_l all sorted before rest end count =
     let parted = parted_covered key b (together rs) (subst (λ q. AreSorted key q) (sym all) sorted) in
     subst (λ q. IsCut p q n) all (cut_at_end p rs row n parted here behind end (count ∙ ap length (sym all)))
 
-pub fewer : {T : Type 0} (row : ℕ) (rs : List (List T)) → length (together (take row rs)) ≤ length (together rs)
-fewer zero rs = omega arith
-fewer (suc row) [] = omega arith
-fewer (suc row) (r ∷ rs) = omega (arith, fewer row rs, length-append r (together (take row rs)), length-append r (together rs))
+-- the rows before a row, by those from it on
+pub rows_before : {T : Type 0} (m : List (List T)) (xs : List T) (row n whole : ℕ) → n ≡ length (together (take (length m - row) (drop row m))) → together m ≡ xs → whole ≡ length xs → (n ≤ whole) × (whole - n ≡ length (together (take row m)))
+rows_before m xs row n whole count all is =
+    let behind : n ≡ length (together (drop row m)) = count ∙ ap (λ l. length (together l)) (take_rest m row) in
+    let parts : length (together m) ≡ length (together (take row m)) + length (together (drop row m)) =
+    ap (λ l. length (together l)) (sym (take-append-drop row m)) ∙ (ap length (together_append (take row m) (drop row m)) ∙ length-append (together (take row m)) (together (drop row m))) in
+    (omega (arith, behind, parts, ap length all, is), omega (arith, behind, parts, ap length all, is))
 
 -- a search from a place on
-none_back : {T : Type 0} (p : T → Bool) (xs : List T) → NonePass p xs → IsCut p xs 0
+pub none_back : {T : Type 0} (p : T → Bool) (xs : List T) → NonePass p xs → IsCut p xs 0
 none_back p [] none = record { bound = omega arith; front = refl; rest = refl }
 none_back p (x ∷ xs) none = record { bound = omega arith; front = rw none.0 refl; rest = rw none.0 refl }
 
@@ -391,9 +426,3 @@ pub part_within : {T : Type 0} (r xs : List T) (skipped count : ℕ) → skipped
 part_within r xs skipped count few =
     let none : take (count - count) (drop (skipped - skipped) xs) ≡ [] = let zero_left : count - count ≡ 0 = omega arith in ap (λ n. take n (drop (skipped - skipped) xs)) zero_left in
     part_next r xs skipped count skipped count (omega (arith, few)) (omega (arith, few)) ∙ ap (λ l. take count (drop skipped r) ++ l) none ∙ append-nil (take count (drop skipped r))
-
--- behind a row that is passed
-pub drop_past : {T : Type 0} (r xs : List T) (s k : ℕ) → length r ≤ s → k ≡ s - length r → drop s (r ++ xs) ≡ drop k xs
-drop_past [] xs s k le is = let same : s ≡ k = omega (arith, is) in ap (λ n. drop n xs) same
-drop_past (y ∷ r) xs zero k le is = absurd (omega (arith, le))
-drop_past (y ∷ r) xs (suc s) k le is = drop_past r xs s k (omega (arith, le)) (omega (arith, is))

@@ -36,12 +36,12 @@ pub record AreRows {T : Type 0} (count : ℕ) (rows : List (List T)) : Type 0 wh
   pub counted : count ≡ length (together rows)
   pub filled : AreFilled rows
 
--- the row in which a place lies, and how many items of the row stand before it
+-- the row of the item at a place, and how many items of the row stand before it; behind all items, a row at whose end the place lies
 pub record IsSpot {T : Type 0} (rows : List (List T)) (place row at : ℕ) : Type 0 where
   pub there : row < length rows
   pub low : at ≤ length (slice_index_or rows row [])
   pub whole : length (together (take row rows)) + at ≡ place
-  pub later : 0 < place → 0 < at
+  pub inside : place < length (together rows) → at < length (slice_index_or rows row [])
 
 -- the place of the first item that does not pass
 pub record EndsAt {T : Type 0} (p : T → Bool) (xs : List T) (place : ℕ) : Type 0 where

@@ -16,18 +16,21 @@ pub(crate) struct Spot {
     pub(crate) at: usize,
 }
 
-// The first row in which or at whose end the place lies.
-pub(crate) fn spot_of<T: Keyed>(rows: &[Row<T>], place: usize) -> Spot
+// The row of the item at the place, or the last row where the place lies behind all items. Most items that come or go
+// stand near the end, so the rows are passed from the last one back.
+pub(crate) fn spot_of<T: Keyed>(rows: &[Row<T>], count: usize, place: usize) -> Spot
     requires some { 0 < length rows.now }
+    requires counted { count ≡ length (together rows.now) }
     requires bound { place ≤ length (together rows.now) }
     ensures { IsSpot rows.now place result.row result.at }
 {
-    let mut row = 0;
-    let mut at = place;
-    'rows: while rows[row].len() < at {
-        at -= rows[row].len();
-        row += 1;
+    let mut row = rows.len() - 1;
+    let mut behind = count - place;
+    'rows: while rows[row].len() < behind {
+        behind -= rows[row].len();
+        row -= 1;
     }
+    let at = rows[row].len() - behind;
     Spot { row, at }
 }
 
@@ -68,16 +71,18 @@ fn split<T: Keyed>(alloc: Global, rows: &mut Vec<Row<T>>, row: usize) -> Result<
 fn make_room<T: Keyed>(
     alloc: Global,
     rows: &mut Vec<Row<T>>,
+    count: usize,
     place: usize,
 ) -> Result<(), AllocError>
     requires some { 0 < length rows.old.items }
+    requires counted { count ≡ length (together rows.old.items) }
     requires bound { place ≤ length (together rows.old.items) }
     requires filled { AreFilled rows.old.items }
     ensures same { together rows.new.items ≡ together rows.old.items }
     ensures filled { AreFilled rows.new.items }
     ensures some { 0 < length rows.new.items }
 {
-    let row = spot_of(rows, place).row;
+    let row = spot_of(rows, count, place).row;
     if rows[row].len() < MOST {
         return Ok(());
     }
@@ -88,10 +93,12 @@ fn make_room<T: Keyed>(
 pub(crate) fn insert_into<T: Keyed>(
     alloc: Global,
     rows: &mut Vec<Row<T>>,
+    count: usize,
     place: usize,
     item: T,
 ) -> Result<(), AllocError>
     requires some { 0 < length rows.old.items }
+    requires counted { count ≡ length (together rows.old.items) }
     requires bound { place ≤ length (together rows.old.items) }
     requires filled { AreFilled rows.old.items }
     ensures ok { OnOk result (together rows.new.items
@@ -99,8 +106,8 @@ pub(crate) fn insert_into<T: Keyed>(
     ensures err { OnErr result (together rows.new.items ≡ together rows.old.items) }
     ensures filled { AreFilled rows.new.items }
 {
-    make_room(alloc, rows, place)?;
-    let spot = spot_of(rows, place);
+    make_room(alloc, rows, count, place)?;
+    let spot = spot_of(rows, count, place);
     rows[spot.row].insert(spot.at, item)?;
     Ok(())
 }

@@ -33,7 +33,7 @@ impl<T> Model for Rows<T> {
     ghost invariant = { λ r. AreRows r.count r.rows.items };
 }
 
-// How many rows end within the bound.
+// How many rows end within the bound. Most searches end in one of the last rows.
 fn covered_count<T: Keyed>(rows: &[Row<T>], bound: Bound) -> usize
     requires filled { AreFilled rows.now }
     requires sorted { AreSorted T.key (together rows.now) }
@@ -43,7 +43,13 @@ fn covered_count<T: Keyed>(rows: &[Row<T>], bound: Bound) -> usize
     ensures rest { drop result rows.now
         ≡ back (last_passes (is_covered T.key bound)) rows.now }
 {
-    rows.partition_point(|row| row.is_covered(bound))
+    for passed in 0..rows.len() {
+        let row = rows.len() - passed;
+        if rows[row - 1].is_covered(bound) {
+            return row;
+        }
+    }
+    0
 }
 
 // How many items come before the first that lies outside the bound, if that is one of the first few.
@@ -105,10 +111,8 @@ impl<T: Keyed> Rows<T> {
         requires { place < length self.now }
         ensures { result ≡ slice_index_or self.now place result }
     {
-        let count = self.count;
-        prove!(place < count);
-        let spot = spot_of(&self.rows, place + 1);
-        self.rows[spot.row].as_slice()[spot.at - 1]
+        let spot = spot_of(&self.rows, self.count, place);
+        self.rows[spot.row].as_slice()[spot.at]
     }
 
     /// Puts the item at the place.
@@ -123,7 +127,7 @@ impl<T: Keyed> Rows<T> {
         if self.rows.is_empty() {
             begin(self.alloc, &mut self.rows, item)?;
         } else {
-            insert_into(self.alloc, &mut self.rows, place, item)?;
+            insert_into(self.alloc, &mut self.rows, self.count, place, item)?;
         }
         self.count += 1;
         Ok(())
@@ -134,12 +138,13 @@ impl<T: Keyed> Rows<T> {
         requires { place < length self.old }
         ensures { self.new ≡ take place self.old ++ drop (suc place) self.old }
     {
-        let spot = spot_of(&self.rows, place + 1);
-        take_out(&mut self.rows, spot.row, spot.at - 1);
+        let spot = spot_of(&self.rows, self.count, place);
+        take_out(&mut self.rows, spot.row, spot.at);
         self.count -= 1;
     }
 
-    /// How many items lie within the bound.
+    /// How many items lie within the bound. It is inlined, since each caller has a bound of one sort.
+    #[inline(always)]
     pub(crate) fn count(&self, bound: Bound) -> usize
         requires { AreSorted T.key self.now }
         ensures bound { result ≤ length self.now }
@@ -151,7 +156,7 @@ impl<T: Keyed> Rows<T> {
         if row == self.rows.len() {
             return whole;
         }
-        length_of(&self.rows[..row]) + self.rows[row].count(bound)
+        whole - length_of(&self.rows[row..]) + self.rows[row].count(bound)
     }
 
     /// The place behind the items from a place on that lie within the bound.
@@ -202,15 +207,11 @@ impl<T: Keyed> Rows<T> {
     fn row_from(&self, from: usize) -> Option<&[T]>
         ensures { MatchOption result (drop from self.now ≡ []) (λ v. (0 < length v.now) × (v.now ≡ take (length v.now) (drop from self.now))) }
     {
-        let mut skipped = from;
-        for row in &self.rows {
-            let items = row.as_slice();
-            if skipped < items.len() {
-                return Some(&items[skipped..]);
-            }
-            skipped -= items.len();
+        if from >= self.count {
+            return None;
         }
-        None
+        let spot = spot_of(&self.rows, self.count, from);
+        Some(&self.rows[spot.row].as_slice()[spot.at..])
     }
 
     /// So many items from the place on, where one row has them all.

@@ -1,5 +1,6 @@
-use Rattle.std.proofs.Common.{◌-◌, ap, ◌∙◌, get_or}
-use Rattle.pl_state.proofs.InRows.{spot_behind, read_there}
+use Rattle.std.proofs.Common.{◌<◌, length, ap, sym, subst, ◌∙◌, get_or}
+use Rattle.pl_state.specs.Rows.{together}
+use Rattle.pl_state.proofs.InRows.{read_there}
 use Rattle.pl_state.proofs.rows.Rows.at.Goals as goal
 
 pub returns : goal.returns
@@ -8,5 +9,6 @@ returns g c =
     let place = c.args.place in
     let spot = c.spot_of-spot.result in
     let x = c.index-as_slice-spot.result in
-    read_there rs c.index.result.now place spot.row (spot.at - 1) x (spot_behind rs c.deref.result.now place spot.row spot.at c.deref.ensures.value c.spot_of-spot.ensures) c.index.ensures
-    (c.index-as_slice-spot.is ∙ ap (λ l. get_or l (spot.at - 1) x) c.as_slice.ensures) ∙ ap (λ l. get_or l place x) c.self.view_is
+    let lt : place < length (together rs) = subst (λ l. place < length l) (sym c.self.view_is) c.requires in
+    read_there rs c.deref.result.now c.index.result.now place spot.row spot.at x c.deref.ensures.value c.spot_of-spot.ensures lt c.index.ensures
+    (c.index-as_slice-spot.is ∙ ap (λ l. get_or l spot.at x) c.as_slice.ensures) ∙ ap (λ l. get_or l place x) c.self.view_is

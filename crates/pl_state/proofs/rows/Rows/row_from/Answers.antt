@@ -1,13 +1,19 @@
-use Rattle.std.proofs.Common.{◌≡◌, ◌∷◌, ◌+◌, ◌-◌, drop, refl, ap, sym, ◌∙◌, arith, length}
-use Rattle.std.proofs.lemmas.List.{drop_more}
+use Rattle.std.proofs.Common.{◌≡◌, ◌<◌, ◌-◌, length, take, drop, ap, sym, ◌∙◌, arith}
+use Rattle.std.proofs.lemmas.List.{take_rest}
 use Rattle.pl_state.specs.Rows.{together}
-use Rattle.pl_state.proofs.InRows.{drop_past}
+use Rattle.pl_state.proofs.InRows.{rest_there}
 use Rattle.pl_state.proofs.rows.Rows.row_from.Goals as goal
 
-pub loop-row-preserved : goal.loop-row-preserved
-loop-row-preserved g c =
-    let rs = c.deref-row-items.result.now in
-    let i = c.loop-row.row-index in
-    let r = c.as_slice-items.result.now in
-    let next : drop i rs ≡ r ∷ drop (i + 1) rs = drop_more rs i c.row-item.result c.loop-row-test.true ∙ ap (λ l. l ∷ drop (i + 1) rs) (sym c.row-item.is ∙ sym c.as_slice-items.ensures) in
-    sym (ap (λ l. drop c.loop-row.skipped (together l)) next ∙ drop_past r (together (drop (i + 1) rs)) c.loop-row.skipped (c.loop-row.skipped - length r) (omega (arith, c.if-skipped-items.false)) refl) ∙ c.loop-row.invariant
+pub returns : goal.returns
+returns g c =
+    let rs = c.self.inside.rows.items in
+    let v = c.as_slice.result.now in
+    let at = c.spot_of-spot.result.at in
+    let from = c.args.from in
+    let lt : from < length (together rs) = omega (arith, c.if-from-self.false, c.self.invariant.counted) in
+    let part = rest_there rs c.deref.result.now c.index.result.now from c.spot_of-spot.result.row at c.deref.ensures.value c.spot_of-spot.ensures lt c.index.ensures in
+    let same : take (length v - at) (drop at v) ≡ drop at c.index.result.now = take_rest v at ∙ ap (drop at) c.as_slice.ensures in
+    let count : length (take (length v - at) (drop at v)) ≡ length (drop at c.index.result.now) = ap length same in (
+      omega (arith, count, part.0),
+      same ∙ (part.1 ∙ (ap (λ n. take n (drop from (together rs))) (sym count) ∙ ap (λ l. take (length (take (length v - at) (drop at v))) (drop from l)) c.self.view_is)),
+    )
