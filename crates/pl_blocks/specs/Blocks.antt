@@ -1,7 +1,7 @@
 -- Rows of blocks of points.
-use Rattle.std.specs.Prelude.{◌≡◌, ℕ, ◌+◌, ◌-◌, get_or, ◌<◌, ◌≤◌, ◌^◌, Bool, true, ◌&&◌, List, [], ◌∷◌, ◌++◌, length, take, ℤ, pos, ◌+ℤ◌}
+use Rattle.std.specs.Prelude.{◌≡◌, ℕ, ◌+◌, ◌-◌, get_or, ◌<◌, ◌≤◌, ◌^◌, Bool, true, ◌&&◌, List, [], ◌∷◌, ◌++◌, length, take, drop, ℤ, pos, ◌+ℤ◌}
 use Rattle.std.specs.Int.{int_min, int_max}
-use Rattle.pl_lists.specs.Lists.{back}
+use Rattle.pl_lists.specs.Lists.{front, back}
 use Rattle.pl_points.specs.Sums.{total}
 use Rattle.pl_points.specs.Points.{Point, is_before, RiseFrom, AreNear, ArePoints}
 
@@ -18,6 +18,12 @@ is_past at (p ∷ ps) = is_before at p && is_past at ps
 -- how many blocks reach to the moment or behind it
 abbrev pub blocks_from : List (List Point) → ℕ → ℕ
 blocks_from bs at = length (back (is_past at) bs)
+
+-- so many blocks lie whole before the moment, and those behind them do not
+pub record ArePast (at : ℕ) (bs : List (List Point)) (count : ℕ) : Type 0 where
+  pub bound : count ≤ length bs
+  pub before : take count bs ≡ front (is_past at) bs
+  pub rest : drop count bs ≡ back (is_past at) bs
 
 abbrev pub delta_of : Point → ℤ
 delta_of p = p.1

@@ -1,10 +1,13 @@
-ghost use Rattle.std.specs.Prelude.{◌≡◌, ◌<◌, ◌≤◌, ◌+◌, ◌^◌, true, suc, length, take, drop};
+ghost use Rattle.std.specs.Prelude.{◌≡◌, ◌<◌, ◌≤◌, ◌+◌, ◌^◌, true, suc, length, take, drop, IfSome};
 ghost use Rattle.pl_lists.specs.Lists.{front, back};
 ghost use Rattle.pl_points.specs.Points.{RiseFrom};
-ghost use Rattle.pl_blocks.specs.Blocks.{together, is_past, AreSized};
+ghost use Rattle.pl_blocks.specs.Blocks.{together, is_past, AreSized, ArePast};
 
 use crate::block::Block;
 use pl_points::{Ledger, Steps};
+
+// So many blocks at the end of a row are looked at one by one, since most of what is sought is late.
+const LATE: usize = 8;
 
 // How many blocks lie whole before the moment: a step for each that it looks at.
 fn past_count<L: Ledger>(blocks: &[Block], at: u32, steps: &mut Steps<L>) -> usize
@@ -52,7 +55,26 @@ fn is_last_past(blocks: &[Block], place: usize, at: u32) -> bool
     !blocks[place + 1].is_past(moment)
 }
 
-/// How many blocks lie whole before the moment, found at once where they are all or all but the last,
+// How many blocks lie whole before the moment, if the last few show it.
+fn past_late(blocks: &[Block], at: u32) -> Option<usize>
+    requires sized { AreSized blocks.now }
+    requires rising { RiseFrom 0 (together blocks.now) }
+    ensures { IfSome result (ArePast at blocks.now) }
+{
+    let moment = u64::from(at);
+    let count = blocks.len();
+    for behind in 0..LATE {
+        if behind == count {
+            return Some(0);
+        }
+        if blocks[count - behind - 1].is_past(moment) {
+            return Some(count - behind);
+        }
+    }
+    None
+}
+
+/// How many blocks lie whole before the moment, found at once where they are all or all but a few,
 /// and where the walk stands in the block behind them or in the last of them.
 pub(crate) fn past_near<L: Ledger>(blocks: &[Block], at: u32, steps: &mut Steps<L>) -> usize
     requires few { length blocks.now < 2 ^ 26 }
@@ -64,15 +86,9 @@ pub(crate) fn past_near<L: Ledger>(blocks: &[Block], at: u32, steps: &mut Steps<
     ensures more { steps.old ≤ steps.new }
     ensures cost { steps.new ≤ steps.old + 26 }
 {
-    let last = blocks.len().wrapping_sub(1);
-    let next_to_last = last.wrapping_sub(1);
-    if is_last_past(blocks, next_to_last, at) {
+    if let Some(count) = past_late(blocks, at) {
         steps.tick();
-        return next_to_last + 1;
-    }
-    if is_last_past(blocks, last, at) {
-        steps.tick();
-        return last + 1;
+        return count;
     }
     let near = steps.near();
     let earlier = near.wrapping_sub(1);

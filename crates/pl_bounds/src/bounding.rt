@@ -76,7 +76,7 @@ struct Walk {
 // The tally with one more look between the last one and this moment, if the timeline may be past its limit there.
 fn looked_between(
     board: &Board,
-    walk: Walk,
+    walk: &Walk,
     outside: &Outside,
     change: &Change<'_>,
     added: Added,
@@ -84,7 +84,7 @@ fn looked_between(
 ) -> Tally
     requires unspoiled { board.now.spoiled ≡ false }
     requires of_plan { IsOutsideOf board.now.state outside.now }
-    requires tally { IsTallyOf (is_past_by board.now.state outside.now change.now.way change.now.steps.now) board.now.state.moment board.now.state.model.horizon walk.tally }
+    requires tally { IsTallyOf (is_past_by board.now.state outside.now change.now.way change.now.steps.now) board.now.state.moment board.now.state.model.horizon walk.now.tally }
     ensures { IsTallyOf (is_past_by board.now.state outside.now change.now.way change.now.steps.now) board.now.state.moment board.now.state.model.horizon result }
 {
     if may_be_past(outside, walk.last, added) {
@@ -95,41 +95,36 @@ fn looked_between(
 }
 
 // Goes on to a look at which as much is added as before.
-fn gone_on(walk: Walk, outside: &Outside, look: Look) -> Walk
+fn gone_on(walk: &mut Walk, outside: &Outside, look: Look)
     ensures { (s : PlanState) (w : ways.Way) (steps : List taken.Step) → look.value ≡ value_at s outside.now.side outside.now.line look.at
-        → IsWalkOf s outside.now w steps walk → IsWalkOf s outside.now w steps result }
+        → IsWalkOf s outside.now w steps walk.old → IsWalkOf s outside.now w steps walk.new }
 {
-    Walk {
-        tally: looked_at(walk.tally, outside, walk.added, look),
-        added: walk.added,
-        last: Some(look.value),
-    }
+    walk.tally = looked_at(walk.tally, outside, walk.added, look);
+    walk.last = Some(look.value);
 }
 
 // Goes on to a look at which it has to be worked out how much is added.
-fn gone_anew(board: &Board, walk: Walk, outside: &Outside, change: &Change<'_>, look: Look) -> Walk
+fn gone_anew(board: &Board, walk: &mut Walk, outside: &Outside, change: &Change<'_>, look: Look)
     requires unspoiled { board.now.spoiled ≡ false }
     requires of_plan { IsOutsideOf board.now.state outside.now }
-    requires tally { IsTallyOf (is_past_by board.now.state outside.now change.now.way change.now.steps.now) board.now.state.moment board.now.state.model.horizon walk.tally }
+    requires tally { IsTallyOf (is_past_by board.now.state outside.now change.now.way change.now.steps.now) board.now.state.moment board.now.state.model.horizon walk.old.tally }
     requires right { look.value ≡ value_at board.now.state outside.now.side outside.now.line look.at }
-    ensures { IsWalkOf board.now.state outside.now change.now.way change.now.steps.now result }
+    ensures { IsWalkOf board.now.state outside.now change.now.way change.now.steps.now walk.new }
 {
     let added = added_at(outside, change, look.at);
     let before = looked_between(board, walk, outside, change, added, look.at);
-    Walk {
-        tally: looked_at(before, outside, added, look),
-        added,
-        last: Some(look.value),
-    }
+    walk.tally = looked_at(before, outside, added, look);
+    walk.added = added;
+    walk.last = Some(look.value);
 }
 
 // Notes a look. If as much is added there as at the look before, the moments between need no look.
-fn gone_to(board: &Board, walk: Walk, outside: &Outside, change: &Change<'_>, look: Look) -> Walk
+fn gone_to(board: &Board, walk: &mut Walk, outside: &Outside, change: &Change<'_>, look: Look)
     requires unspoiled { board.now.spoiled ≡ false }
     requires of_plan { IsOutsideOf board.now.state outside.now }
-    requires walk { IsWalkOf board.now.state outside.now change.now.way change.now.steps.now walk }
+    requires walk { IsWalkOf board.now.state outside.now change.now.way change.now.steps.now walk.old }
     requires right { look.value ≡ value_at board.now.state outside.now.side outside.now.line look.at }
-    ensures { IsWalkOf board.now.state outside.now change.now.way change.now.steps.now result }
+    ensures { IsWalkOf board.now.state outside.now change.now.way change.now.steps.now walk.new }
 {
     if walk.added.is_known_at(look.at) {
         gone_on(walk, outside, look)
@@ -180,7 +175,7 @@ fn times_of(board: &Board, ahead: Tally, outside: &Outside, change: &Change<'_>)
     };
     let looks = outside.looks.as_slice();
     for look in looks {
-        walk = gone_to(board, walk, outside, change, *look);
+        gone_to(board, &mut walk, outside, change, *look);
     }
     times_behind(board, walk, outside, change)
 }

@@ -8,4 +8,4 @@ loop-look-preserved c =
     let o = c.args.outside.now in
     let some : Look = record { at = 0; value = pos 0 } in
     let rest = right_next c.args.board.now.state o.side o.line c.as_slice-looks.result.now c.loop-look.look-index some c.loop-look-test.true c.loop-look.invariant.1 in
-    (c.gone_to-walk.ensures, rest.1)
+    (c.gone_to.ensures, rest.1)
