@@ -121,6 +121,11 @@ Views by r old (Ok (view.Settled a)) r2 new = Acts by r old (Ok a) r2 new
 Views by r old (Ok (view.Copy sight)) r2 new = Sees r old new sight r2
 Views by r old (Err s) r2 new = Acts by r old (Err s) r2 new
 
+-- A view that is over at once leaves the role as it was: no chooser was asked for it.
+abbrev pub KeepsRole : Role → Result View Stop → Role → Type 0
+KeepsRole r (Ok (view.Settled a)) r2 = r2 ≡ r
+KeepsRole r _ r2 = Unit {0}
+
 -- A fix is the sight's, and made if the sight was the whole history; or, without a proposal, the one that the chooser proposes in the
 -- world before, which is made. Repair rests where the turns are spent, or where there was no proposal.
 abbrev pub IsSettled : Lcg → Sight → Lcg → List Noted → Event → Reply → Type 0
