@@ -4,7 +4,7 @@ ghost use Rattle.pl_turn.specs.Passes.{seen_of};
 ghost use Rattle.pl_marks.specs.Authors.{IsAuthor};
 ghost use Rattle.pl_acts.specs.Roles.{worker_of, role_author};
 ghost use Rattle.pl_locked.specs.Plans.{BelongsTo};
-ghost use Rattle.pl_locked.specs.Turns.{TakesTurn, Acts, Looks, Views, KeepsRole, CanSettle, Settles, SettlesAs};
+ghost use Rattle.pl_locked.specs.Turns.{TakesTurn, Acts, Looks, LookRests, Views, ViewRests, CanSettle, Settles, SettlesAs};
 
 use crate::plan::{Pass, SharedPlan};
 use pl_acts::{Acted, Looked, Role, Sight, View, ask};
@@ -47,7 +47,7 @@ impl SharedPlan {
         ensures own { BelongsTo self.now pass.new }
         ensures takes { TakesTurn pass.old pass.new }
         ensures looks { Looks by chooser.old pass.old result chooser.new pass.new }
-        ensures kept { at_once ≡ false → chooser.new ≡ chooser.old }
+        ensures rests { at_once ≡ false → LookRests by chooser.old pass.old result chooser.new pass.new }
     {
         let mut held = self.enter(rt, pass);
         let before = held.busy();
@@ -59,7 +59,7 @@ impl SharedPlan {
         looked
     }
 
-    #[tactic(auto, using(crate::proofs::Halves::viewed, crate::proofs::Halves::view_stops))]
+    #[tactic(auto, using(crate::proofs::Halves::viewed, crate::proofs::Halves::viewed_rests, crate::proofs::Halves::view_stops))]
     fn view_plan<R: Wait>(
         &self,
         rt: &R,
@@ -74,7 +74,7 @@ impl SharedPlan {
         ensures own { BelongsTo self.now pass.new }
         ensures takes { TakesTurn pass.old pass.new }
         ensures views { Views by (Role.Planner chooser.old) pass.old result (Role.Planner chooser.new) pass.new }
-        ensures kept { at_once ≡ false → KeepsRole (Role.Planner chooser.old) result (Role.Planner chooser.new) }
+        ensures rests { at_once ≡ false → ViewRests by (Role.Planner chooser.old) pass.old result (Role.Planner chooser.new) pass.new }
     {
         match self.look(rt, alloc, pass, by, chooser, at_once)? {
             Looked::Settled(acted) => Ok(View::Settled(acted)),
@@ -100,7 +100,7 @@ impl SharedPlan {
         ensures own { BelongsTo self.now pass.new }
         ensures takes { TakesTurn pass.old pass.new }
         ensures views { Views by role.old pass.old result role.new pass.new }
-        ensures kept { at_once ≡ false → KeepsRole role.old result role.new }
+        ensures rests { at_once ≡ false → ViewRests by role.old pass.old result role.new pass.new }
     {
         match role {
             Role::Planner(chooser) => self.view_plan(rt, alloc, pass, by, chooser, at_once),
@@ -126,7 +126,7 @@ impl SharedPlan {
         ensures own { BelongsTo self.now pass.new }
         ensures takes { TakesTurn pass.old pass.new }
         ensures views { Views by role.old pass.old result role.new pass.new }
-        ensures kept { KeepsRole role.old result role.new }
+        ensures rests { ViewRests by role.old pass.old result role.new pass.new }
     {
         self.begin(rt, alloc, pass, by, role, false)
     }
@@ -143,7 +143,7 @@ impl SharedPlan {
         ensures own { BelongsTo self.now pass.new }
         ensures takes { TakesTurn pass.old pass.new }
         ensures views { Views (role_author role.old) role.old pass.old result role.new pass.new }
-        ensures kept { KeepsRole role.old result role.new }
+        ensures rests { ViewRests (role_author role.old) role.old pass.old result role.new pass.new }
     {
         let by = role.author();
         self.view_as(rt, alloc, pass, by, role)
