@@ -5,7 +5,7 @@ use std::sync::Wait;
 use std::sync::atomic::{AtomicBool, Ordering};
 use std::thread;
 
-// So often a planner looks whether the executive is done, before it goes on beside it.
+// How often a planner looks whether the executive is done, before it waits no longer.
 const LOOKS: u32 = 64;
 
 /// Who waits for something to do.
@@ -64,8 +64,8 @@ impl Bells {
             .store(busy.executive, Ordering::SeqCst);
     }
 
-    /// Lets a moment pass where the executive has something to do, which is quickly done: a planner that goes first in the meantime would
-    /// choose on a replica.
+    /// Waits a moment if the executive has something to do, which takes little time. A planner that did not wait would have to choose on a
+    /// replica.
     pub fn let_executive_go_first(&self) {
         for _ in 0..LOOKS {
             if !self.executive_is_due.load(Ordering::SeqCst) {

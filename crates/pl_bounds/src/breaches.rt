@@ -16,7 +16,7 @@ use pl_semantics::{Asked, Demand};
 use pl_state::{Must, Setting};
 use std::alloc::AllocError;
 
-// Whether a demand is not the need of this reservation.
+// Whether the demand is not this must.
 fn is_of_other(demand: &Demand, must: &Must) -> bool
     ensures { IsTrue result → (line : ℕ) → Has must.now (musts_asked line (demand.now ∷ [])) → ⊥ }
 {
@@ -26,7 +26,7 @@ fn is_of_other(demand: &Demand, must: &Must) -> bool
     }
 }
 
-// Whether none of these demands is.
+// Whether none of the demands is this must.
 fn are_of_others(demands: &[Demand], must: &Must) -> bool
     ensures { IsTrue result → (line : ℕ) → Has must.now (musts_asked line demands.now) → ⊥ }
 {

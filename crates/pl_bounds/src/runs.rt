@@ -26,8 +26,8 @@ pub(crate) struct Run {
     pub(crate) additions: Vec<Addition>,
 }
 
-// Has the limits looked at more closely, for what the move changes. An addition adds the limits that it may pass; for the many shifts of a
-// choice that would cost more than it saves. For any other move only the effects that go are looked at.
+// Adds looks for what the move changes. For an addition also the limits that it may pass are looked at. For other moves that would cost
+// more than it saves, since a chooser looks at many shifts: only the effects that go are looked at.
 fn widen_for(
     alloc: Global,
     board: &Board,

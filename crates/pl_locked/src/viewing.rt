@@ -32,7 +32,7 @@ impl SharedPlan {
         acted
     }
 
-    /// A planner's first turn. With `at_once` it repairs in it if nobody else has anything to do.
+    /// A planner's first turn. With `at_once` it repairs in this turn, if it is the only planner and nobody else has anything to do.
     fn look<R: Wait>(
         &self,
         rt: &R,
@@ -85,7 +85,7 @@ impl SharedPlan {
         }
     }
 
-    /// The first turn of an act, and with `at_once` the only one where nobody else has anything to do.
+    /// The first turn of an act. With `at_once` it may be the only one: see `look`.
     pub(crate) fn begin<R: Wait>(
         &self,
         rt: &R,

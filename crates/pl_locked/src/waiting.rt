@@ -8,7 +8,7 @@ impl SharedPlan {
         self.bells.rings(rt, listener)
     }
 
-    /// Lets a moment pass where this listener is a planner and the executive has something to do.
+    /// Waits a moment if this listener is a planner and the executive has something to do.
     pub(crate) fn give_way(&self, listener: Listener) {
         if listener == Listener::Planner {
             self.bells.let_executive_go_first();

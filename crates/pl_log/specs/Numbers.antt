@@ -20,14 +20,14 @@ unpacked bytes =
     else if nat_lt (slice_index bytes 0) 255 then slice_index bytes 1 * 256 + slice_index bytes 2
     else slice_index bytes 1 * 16777216 + slice_index bytes 2 * 65536 + slice_index bytes 3 * 256 + slice_index bytes 4
 
--- how many bytes it has
+-- how many bytes that number takes
 abbrev pub width : List ℕ → ℕ
 width bytes =
     if nat_lt (slice_index bytes 0) 254 then 1
     else if nat_lt (slice_index bytes 0) 255 then 3
     else 5
 
--- so many numbers
+-- the first numbers of these bytes, as many as are asked for
 abbrev pub all_unpacked : ℕ → List ℕ → List ℕ
 all_unpacked zero bytes = []
 all_unpacked (suc more) bytes = unpacked bytes ∷ all_unpacked more (drop (width bytes) bytes)

@@ -79,7 +79,7 @@ packed_by e event.Close answer = if is_done answer then short form.Close [] else
 abbrev pub packed_of : Entry → Packed
 packed_of e = packed_by e e.event e.reply
 
--- the parts have this entry more
+-- This entry was put at the end of the parts.
 pub record Adds (p : Packed) (before after : Parts) : Type 0 where
   pub forms : after.forms.items ≡ before.forms.items ++ p.form ∷ []
   pub numbers : after.numbers.items ≡ before.numbers.items ++ p.numbers

@@ -26,7 +26,7 @@ first_whole (e ∷ es) = e
 abbrev pub conflict_in : Code → List ℕ → Conflict
 conflict_in code ns = record { from = slice_index ns 0; code = code; subject = slice_index ns 1; detail = slice_index ns 2; a = slice_index ns 3; b = slice_index ns 4 }
 
--- behind the five numbers of the conflict
+-- the move, whose numbers stand after the five of its conflict
 abbrev pub move_in : MoveForm → List ℕ → List (Option ℤ) → RepairMove
 move_in of.Add ns vs = repair.Add (slice_index ns 5) (slice_index ns 6) None
 move_in of.AddFor ns vs = repair.Add (slice_index ns 5) (slice_index ns 6) (Some (slice_index ns 7))

@@ -17,7 +17,7 @@ pub(crate) enum MoveForm {
     Drop,
 }
 
-/// What a packed entry is, apart from its numbers. Nearly all entries of a run have one of the short forms.
+/// What a packed entry is, apart from its numbers. Nearly all entries of a run have another form than `Whole`.
 #[derive(Clone, Copy)]
 pub(crate) enum Form {
     /// Any entry, kept as it is.

@@ -1,4 +1,4 @@
-//! The log of a run, kept in few bytes: of all but the newest entries only what tells them apart is kept.
+//! The log of a run, kept in few bytes: all but its newest entries are packed.
 #![tactic(auto)]
 
 mod form;

@@ -8,10 +8,10 @@ use pl_lists::{Copied, Items};
 use std::alloc::{AllocError, Global};
 use std::marker::Model;
 
-/// So many entries are packed together.
+/// How many entries are packed together.
 const PACK: usize = 256;
 
-/// A log has no more packs than these, so that its entries can be counted.
+/// The greatest number of packs. With more of them the entries could not be counted.
 const MOST_PACKS: usize = 0x1_0000_0000;
 
 /// A log in few bytes: the newest entries as they are, the older ones packed.
@@ -81,7 +81,7 @@ impl Log {
         self.newest.push(entry).unwrap();
     }
 
-    /// The entries behind so many, as they stand in the log; none where some of them are packed.
+    /// All entries but the first `from`, as they stand in the log. `None` if some of these are packed.
     #[tactic(auto, using(crate::proofs::Packs::behind_newest))]
     pub fn newest_from(&self, from: usize) -> Option<&[Entry]>
         ensures { IfSome result (λ entries. entries.now ≡ drop from self.now.entries) }
@@ -93,7 +93,7 @@ impl Log {
         Some(after(&self.newest, from - packed))
     }
 
-    /// The entries behind so many, with memory of their own.
+    /// Copies of all entries but the first `from`.
     #[tactic(auto, using(crate::proofs::Packs::behind_packed, crate::proofs::Packs::behind_newest, crate::proofs::Packs::full_back))]
     pub fn entries_from(&self, alloc: Global, from: usize) -> Result<Items<Entry>, AllocError>
         ensures { IfOk result (λ entries. entries ≡ drop from self.now.entries) }
@@ -143,7 +143,7 @@ fn push_copies(alloc: Global, entries: &[Entry], into: &mut Items<Entry>) -> Res
     Ok(())
 }
 
-/// Appends the entries of packs to a list. Of the first pack so many are left out.
+/// Appends the entries of packs to a list, but for the first `from` of the first pack.
 fn unpack_all(
     alloc: Global,
     packs: &[Pack],

@@ -43,7 +43,7 @@ fn push_packed(bytes: &mut Vec<u8>, number: u32) -> Result<(), AllocError>
     Ok(())
 }
 
-// The byte at a place, and 0 behind the end.
+// The byte at a place, or 0 if there is none.
 fn byte_at(bytes: &[u8], place: usize) -> u8
     ensures { result ≡ slice_index bytes.now place }
 {
@@ -84,7 +84,7 @@ fn unpacked(bytes: &[u8]) -> u32
     }
 }
 
-/// How many bytes this number has.
+/// How many bytes the first number takes.
 fn width(bytes: &[u8]) -> usize
     ensures { result ≡ width bytes.now }
 {
@@ -113,7 +113,7 @@ impl Numbers {
         })
     }
 
-    /// The numbers, each in a place of its own.
+    /// The numbers as they were before they were packed.
     pub(crate) fn unpack(&self, alloc: Global) -> Result<Vec<u32>, AllocError>
         ensures { IfOk result (λ numbers. numbers.items ≡ self.now) }
     {

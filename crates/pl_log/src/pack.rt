@@ -47,7 +47,7 @@ impl Pack {
         })
     }
 
-    /// Appends the entries behind so many to a list.
+    /// Appends all entries but the first `from` to a list.
     pub(crate) fn unpack(
         &self,
         alloc: Global,

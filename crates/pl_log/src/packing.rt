@@ -9,7 +9,7 @@ use pl_lists::Copied;
 use pl_plan::RepairMove;
 use std::alloc::{AllocError, Global};
 
-/// A length from here on is kept as it is: no message is as long, and no command has as many values.
+/// An entry with a line or a list of values of this length or more is kept whole. No message is as long, and no command has as many values.
 const LONG: usize = 65_536;
 
 fn is_done(reply: &Reply) -> bool

@@ -5,7 +5,7 @@ use crate::form::MoveForm;
 use pl_conflict::{Code, Conflict};
 use pl_plan::RepairMove;
 
-/// What stands behind so many items.
+/// All items but the first `count`.
 pub(crate) fn after<T>(items: &[T], count: usize) -> &[T]
     ensures { result.now ≡ drop count items.now }
 {
@@ -16,7 +16,7 @@ pub(crate) fn after<T>(items: &[T], count: usize) -> &[T]
     }
 }
 
-/// The first of the items, so many of them.
+/// The first `count` items, or all if there are fewer.
 pub(crate) fn first_of<T>(items: &[T], count: usize) -> &[T]
     ensures { result.now ≡ take count items.now }
 {
@@ -27,7 +27,7 @@ pub(crate) fn first_of<T>(items: &[T], count: usize) -> &[T]
     }
 }
 
-/// The number at a place, and 0 behind the end.
+/// The number at a place, or 0 if there is none.
 pub(crate) fn number_at(numbers: &[u32], place: usize) -> u32
     ensures { result ≡ slice_index numbers.now place }
 {

@@ -1,4 +1,5 @@
 pub mod Telling
+pub mod Unwritten
 pub mod Playing
 pub mod Heading
 pub mod LastLines

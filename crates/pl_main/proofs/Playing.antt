@@ -1,6 +1,6 @@
 -- Message after message.
 use Rattle.std.proofs.Common.{◌≡◌, ℕ, ◌+◌, ◌<◌, ◌≤◌, List, [], ◌∷◌, ◌++◌, length, drop, Bool, true, false, All, Option, Some, None, IfSome, ◌⊎◌, inl, inr, Result, Ok, Err, refl, sym, ◌∙◌, ap, subst, append_assoc, length-append, arith}
-use Rattle.std.proofs.lemmas.List.{append-nil, drop_all}
+use Rattle.std.proofs.lemmas.List.{append-nil}
 use Rattle.std.proofs.lemmas.List.Elements.{filter_map-append}
 use Rattle.pl_io.specs.declared.errors.LineFault.{LineFault}
 use Rattle.pl_io.specs.Reader.{NumberedLine}
@@ -31,6 +31,7 @@ use Rattle.pl_main.specs.Plays.{AnswersMessages, EndsAll, by_end, by_line, Answe
 use Rattle.pl_input.proofs.Reading.{took_none, took_more, gave_later}
 use Rattle.pl_input.proofs.Stopping.{never_full, never_writes, read_leaves, limit_leaves, stops_by}
 use Rattle.pl_journal.proofs.AboutWriting.{some_held, adds_then, appends_then}
+use Rattle.pl_main.proofs.Unwritten.{log_ended}
 use Rattle.pl_pair.proofs.Saying.{skip_blanks, message_next, end_next, none_left}
 
 pub input_fits : (start place : Place) (message : Option NumberedLine) (line : Option (List ℕ)) → start.reader.limit ≡ 4096 → line ≡ line_in message → IfSome line (λ bytes. All (λ byte. byte < 256) bytes)
@@ -69,8 +70,7 @@ filled_cut old new input held now e from faults later fills is more front cause 
 -- of a message that came to a full log nothing is to be written
 pub filled_before : {R : Rule} (old new : State) (input held : Option (List ℕ)) (from : ℕ) → FillsUp R old input new → from ≡ length old.log → length new.log ≤ from → Answering R old input held (Err halt.Full) new held
 filled_before old new input held from fills is none =
-    let fresh : drop (length old.log) new.log ≡ [] = drop_all (length old.log) new.log (omega (arith, is, none)) in
-    record { fills = fills; written = subst (λ (es : List Entry). Adds held held (text_from old.model (length old.log) es)) (sym fresh) (some_held held) }
+    record { fills = fills; written = log_ended held old.model (length old.log) new.log (omega (arith, is, none)) }
 
 pub not_told : {R : Rule} (old new : State) (input held : Option (List ℕ)) → Legal old.model old.log → Answering R old input held (Err halt.Memory) new held
 not_told old new input held legal = untold legal refl

@@ -10,7 +10,7 @@ use pl_machine::Machine;
 use std::alloc::Global;
 
 /// Writes the lines of a log from an entry on. No line is made for a sink that does not keep what it is given.
-#[tactic(auto, using(pl_machine::proofs::ShortLogs::log_is_short))]
+#[tactic(auto, using(pl_machine::proofs::ShortLogs::log_is_short, crate::proofs::Unwritten::log_unwritten, crate::proofs::Unwritten::log_ended))]
 pub fn write_log<O: Sink>(
     alloc: Global,
     machine: &Machine,
@@ -27,6 +27,9 @@ pub fn write_log<O: Sink>(
         return Ok(());
     }
     let log = machine.log();
+    if log.len() <= from {
+        return Ok(());
+    }
     if let Some(entries) = log.newest_from(from) {
         return write_entries(alloc, machine.model(), from as u32, entries, out);
     }

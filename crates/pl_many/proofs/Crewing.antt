@@ -1,5 +1,5 @@
 -- The run of a crew, and the lines behind it.
-use Rattle.std.proofs.Common.{◌≡◌, ℕ, zero, suc, ◌+◌, ◌<◌, ◌≤◌, ◌^◌, List, [], ◌∷◌, ◌++◌, length, Option, Result, Ok, Err, OnOk, OnErr, IfErr, IsErrOf, refl, sym, ◌∙◌, ap, subst, arith}
+use Rattle.std.proofs.Common.{◌≡◌, ℕ, zero, suc, ◌+◌, ◌<◌, ◌≤◌, ◌^◌, List, [], ◌∷◌, ◌++◌, length, Option, Result, Ok, Err, OnOk, OnErr, IfErr, IsErrAnd, IsErrOf, refl, sym, ◌∙◌, ap, subst, arith}
 use Rattle.std.specs.List.{All}
 use Rattle.std.proofs.lemmas.List.{length-map}
 use Rattle.std.proofs.lemmas.List.Elements.{All-nil, All-cons}
@@ -23,6 +23,7 @@ use Rattle.pl_pair.specs.Duties.{begun_of, author_of}
 use Rattle.pl_pair.specs.Runs.{RunsTeam}
 use Rattle.pl_many.specs.Tallies.{lines_of}
 use Rattle.pl_many.specs.CrewRuns.{planners_from, crew_of, Tails, CrewRun}
+use Rattle.pl_many.proofs.Tallying.{lines_none}
 
 -- ---- what the workers are hired for
 
@@ -99,6 +100,14 @@ module _ (planners seed : ℕ) (start : State) (place : Place) (held : Option (L
             (ap (λ (ms : List Mark). lines_of planners ms log) (theirs ∙ runs.back.2) ∙ ap (λ (es : List Entry). lines_of planners (marks_of runs.run.history.signs.by) es) (whole ∙ runs.back.1))
             (tails r before after written now (lines_of planners marks log) adds front cause);
       }
+
+  -- the team came to its end, and there was no memory for the entries of its log: no line was written
+  pub crew_untold : (e : Ended) (r : Result (Unit {0}) Halt) (written : Option (List ℕ)) → IsErrAnd r (λ h. h ≡ halt.Memory) → 0 < planners → RunsTeam (crew_of planners seed (length start.log)) start place held (Ok e) behind written
+      → CrewRun planners seed start place held r behind written
+  crew_untold e (Ok u) written is some runs = absurd is
+  crew_untold e (Err h) written is some runs =
+      subst (λ (x : Halt). CrewRun planners seed start place held (Err x) behind written) (sym is)
+      (record { answer = Ok tt; written = written; run = runs.run; tail = lines_none written planners (marks_of runs.run.history.signs.by) runs.run.log some })
 
   -- the team was halted
   pub crew_halts : (h : Halt) (now : Option (List ℕ)) → RunsTeam (crew_of planners seed (length start.log)) start place held (Err h) behind now → CrewRun planners seed start place held (Err h) behind now

@@ -1,5 +1,5 @@
 -- Lines of planners.
-use Rattle.std.proofs.Common.{◌≡◌, ℕ, suc, ◌+◌, ◌-◌, ◌<◌, ◌≤◌, List, ◌++◌, length, Option, Some, None, Result, OnErr, sym, ap, ◌∙◌, subst, arith, length-append}
+use Rattle.std.proofs.Common.{◌≡◌, ℕ, zero, suc, ◌+◌, ◌-◌, ◌<◌, ◌≤◌, List, ◌++◌, length, Option, Some, None, Result, OnErr, sym, ap, ◌∙◌, subst, arith, length-append}
 use Rattle.std.proofs.lemmas.List.{append-nil}
 use Rattle.std.proofs.lemmas.List.Sums.{count_by-le-length}
 use Rattle.std.specs.List.{count_by}
@@ -10,7 +10,7 @@ use Rattle.pl_marks.specs.declared.mark.Mark.{Mark}
 use Rattle.pl_many.specs.declared.tally.Tally.{Tally}
 use Rattle.pl_journal.specs.Written.{Adds}
 use Rattle.pl_journal.proofs.AboutWriting.{AddsFront, adds_more, front_behind, front_stops}
-use Rattle.pl_many.specs.Tallies.{is_mark_by, is_repair_by, tally_of, planner_line, lines_from}
+use Rattle.pl_many.specs.Tallies.{is_mark_by, is_repair_by, tally_of, planner_line, lines_from, lines_of}
 
 pub few_entries : (number : ℕ) (marks : List Mark) → count_by (is_mark_by number) marks ≤ length marks
 few_entries number marks = count_by-le-length (is_mark_by number) marks
@@ -25,6 +25,13 @@ line_some number t = simp length-append (omega arith)
 pub front_none : (held : Option (List ℕ)) (number : ℕ) (t : Tally) → AppendsFront held held (planner_line number t)
 front_none None number t = tt
 front_none (Some before) number t = (0, line_some number t, ap Some (sym (append-nil before)))
+
+-- nothing of the lines of some planners was written
+pub lines_none : (held : Option (List ℕ)) (planners : ℕ) (marks : List Mark) (log : List Entry) → 0 < planners → AppendsFront held held (lines_of planners marks log)
+lines_none None planners marks log some = tt
+lines_none (Some before) zero marks log some = absurd (omega (arith, some))
+lines_none (Some before) (suc more) marks log some =
+    (0, (let line = line_some 1 (tally_of 1 marks log) in let longer = length-append (planner_line 1 (tally_of 1 marks log)) (lines_from 2 more marks log) in omega (arith, line, longer)), ap Some (sym (append-nil before)))
 
 -- ---- one line more
 
