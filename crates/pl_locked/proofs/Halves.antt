@@ -34,7 +34,7 @@ use Rattle.pl_acts.proofs.FullLogs.{in_world_on}
 use Rattle.pl_acts.proofs.Items.{in_world_of, stop_in_same, length_going}
 use Rattle.pl_acts.proofs.Replicas.{replica_of}
 use Rattle.pl_locked.specs.Plans.{PlanPass}
-use Rattle.pl_locked.specs.Turns.{TakesTurn, MakesNothing, low_of, Acts, Lends, Looks, Sees, CanSettle, Views, IsSettled, Settles, SettlesAs}
+use Rattle.pl_locked.specs.Turns.{TakesTurn, MakesNothing, low_of, Acts, Lends, Looks, LookRests, Sees, CanSettle, Views, ViewRests, IsSettled, Settles, SettlesAs}
 
 -- ---- a view
 
@@ -93,6 +93,12 @@ ask_stops by old new g g1 g2 draft on looks once =
 
 pub viewed : (by : Author) (old new : PlanPass) (g g2 : Lcg) (a : Acted) → Looks by g old (Ok (looked.Settled a)) g2 new → Views by (Planner g) old (Ok (view.Settled a)) (Planner g2) new
 viewed by old new g g2 a looks = looks
+
+pub viewed_rests : (by : Author) (old new : PlanPass) (g g2 : Lcg) (a : Acted) → LookRests by g old (Ok (looked.Settled a)) g2 new → ViewRests by (Planner g) old (Ok (view.Settled a)) (Planner g2) new
+viewed_rests by old new g g2 (acted.Did n) rests = (rests.0, ap (λ (x : Lcg). Planner x) rests.1)
+viewed_rests by old new g g2 acted.Nothing rests = tt
+viewed_rests by old new g g2 acted.Finished rests = tt
+viewed_rests by old new g g2 acted.Stopped rests = tt
 
 -- ---- a view, and what settles behind it
 
