@@ -96,9 +96,15 @@ viewed by old new g g2 a looks = looks
 
 pub viewed_rests : (by : Author) (old new : PlanPass) (g g2 : Lcg) (a : Acted) → LookRests by g old (Ok (looked.Settled a)) g2 new → ViewRests by (Planner g) old (Ok (view.Settled a)) (Planner g2) new
 viewed_rests by old new g g2 (acted.Did n) rests = (rests.0, ap (λ (x : Lcg). Planner x) rests.1)
-viewed_rests by old new g g2 acted.Nothing rests = tt
-viewed_rests by old new g g2 acted.Finished rests = tt
-viewed_rests by old new g g2 acted.Stopped rests = tt
+viewed_rests by old new g g2 acted.Nothing rests = ap (λ (x : Lcg). Planner x) rests
+viewed_rests by old new g g2 acted.Finished rests = ap (λ (x : Lcg). Planner x) rests
+viewed_rests by old new g g2 acted.Stopped rests = ap (λ (x : Lcg). Planner x) rests
+
+pub view_stops_unasked : (by : Author) (old new : PlanPass) (g g2 : Lcg) (s : Stop) → LookRests by g old (Err s) g2 new → ViewRests by (Planner g) old (Err s) (Planner g2) new
+view_stops_unasked by old new g g2 stop.Spoiled rests = ap (λ (x : Lcg). Planner x) rests
+view_stops_unasked by old new g g2 stop.NotNow rests = tt
+view_stops_unasked by old new g g2 stop.LogFull rests = ap (λ (x : Lcg). Planner x) rests
+view_stops_unasked by old new g g2 stop.Memory rests = tt
 
 -- ---- a view, and what settles behind it
 

@@ -95,10 +95,10 @@ Looks by g old (Ok (looked.Settled a)) g2 new = Acts by (Planner g) old (Ok a) (
 Looks by g old (Ok (looked.Open draft)) g2 new = Lends old draft new × (g2 ≡ g)
 Looks by g old (Err s) g2 new = Acts by (Planner g) old (Err s) (Planner g2) new
 
--- the same of a planner's first turn, where its act takes two
+-- The same of a planner's first turn, where its act takes two: the chooser is not asked in it, and an entry that it makes is a rest for a plain reason.
 abbrev pub LookRests : Author → Lcg → PlanPass → Result Looked Stop → Lcg → PlanPass → Type 0
 LookRests by g old (Ok (looked.Settled (acted.Did number))) g2 new = Makes (λ before e. InWorld before (λ w. RestsAtOnce w e)) by old new number × (g2 ≡ g)
-LookRests by g old a g2 new = Unit {0}
+LookRests by g old a g2 new = g2 ≡ g
 
 -- The chooser was asked in the world after all that the pass has seen behind the call, and has drawn its words once.
 pub record Sees (r : Role) (old new : PlanPass) (sight : Sight) (r2 : Role) : Type 0 where
@@ -126,9 +126,12 @@ Views by r old (Ok (view.Settled a)) r2 new = Acts by r old (Ok a) r2 new
 Views by r old (Ok (view.Copy sight)) r2 new = Sees r old new sight r2
 Views by r old (Err s) r2 new = Acts by r old (Err s) r2 new
 
--- An entry that a planner's view makes is a rest for a plain reason, and its chooser is not asked for it.
+-- An entry that a planner's view makes is a rest for a plain reason. Its chooser is asked for a sight alone; where memory was wanting, it may have been asked for one.
 abbrev pub ViewRests : Author → Role → PlanPass → Result View Stop → Role → PlanPass → Type 0
 ViewRests by (Planner g) old (Ok (view.Settled (acted.Did number))) r2 new = Makes (λ before e. InWorld before (λ w. RestsAtOnce w e)) by old new number × (r2 ≡ Planner g)
+ViewRests by (Planner g) old (Ok (view.Settled a)) r2 new = r2 ≡ Planner g
+ViewRests by (Planner g) old (Err stop.LogFull) r2 new = r2 ≡ Planner g
+ViewRests by (Planner g) old (Err stop.Spoiled) r2 new = r2 ≡ Planner g
 ViewRests by r old a r2 new = Unit {0}
 
 -- A fix is the sight's, and made if the sight was the whole history; or, without a proposal, the one that the chooser proposes in the

@@ -59,7 +59,7 @@ impl SharedPlan {
         looked
     }
 
-    #[tactic(auto, using(crate::proofs::Halves::viewed, crate::proofs::Halves::viewed_rests, crate::proofs::Halves::view_stops))]
+    #[tactic(auto, using(crate::proofs::Halves::viewed, crate::proofs::Halves::viewed_rests, crate::proofs::Halves::view_stops, crate::proofs::Halves::view_stops_unasked))]
     fn view_plan<R: Wait>(
         &self,
         rt: &R,
