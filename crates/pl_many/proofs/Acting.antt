@@ -64,7 +64,7 @@ module _ (crew : Crew) (old new : Member) (member : IsMember crew old) (own : Be
 
   pub viewed_as : (v : Result View Stop) → ViewsAs old v new → IsMember crew new
   viewed_as v views =
-      acts_on views.before views.behind views.was views.is views.author (views_worker old.author views.before views.behind old.pass new.pass v views.says.0) (signs_views old.author views.before views.behind old.pass new.pass v views.says.0 member.signed)
+      acts_on views.before views.behind views.was views.is views.author (views_worker old.author views.before views.behind old.pass new.pass v views.says) (signs_views old.author views.before views.behind old.pass new.pass v views.says member.signed)
 
   pub settled_by : (sight : Sight) (a : Result Acted Stop) → SettlesBy sight old a new → IsMember crew new
   settled_by sight a settles =

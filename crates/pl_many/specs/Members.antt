@@ -118,7 +118,10 @@ abbrev pub ActsAs : Member → Result Acted Stop → Member → Type 0
 ActsAs old result new = InRole (λ r r2. Acts old.author r old.pass result r2 new.pass) old new
 
 abbrev pub ViewsAs : Member → Result View Stop → Member → Type 0
-ViewsAs old result new = InRole (λ r r2. Views old.author r old.pass result r2 new.pass × ViewRests old.author r old.pass result r2 new.pass) old new
+ViewsAs old result new = InRole (λ r r2. Views old.author r old.pass result r2 new.pass) old new
+
+abbrev pub ViewRestsAs : Member → Result View Stop → Member → Type 0
+ViewRestsAs old result new = InRole (λ r r2. ViewRests old.author r old.pass result r2 new.pass) old new
 
 abbrev pub SettlesBy : Sight → Member → Result Acted Stop → Member → Type 0
 SettlesBy sight old result new = InRole (λ r r2. SettlesAs old.author r sight old.pass result r2 new.pass) old new
