@@ -24,6 +24,7 @@ use Rattle.pl_acts.specs.declared.role.Acted.TheVariants as acted
 use Rattle.pl_acts.specs.declared.draft.Draft.{Draft}
 use Rattle.pl_acts.specs.declared.look.Looked.TheVariants as looked
 use Rattle.pl_acts.specs.declared.sight.Sight.{Sight}
+use Rattle.pl_acts.specs.declared.sight.View.{View}
 use Rattle.pl_acts.specs.declared.sight.View.TheVariants as view
 use Rattle.pl_acts.specs.Items.{items_of, stop_in, entries_in, InWorld}
 use Rattle.pl_acts.specs.Replicas.{log_of, IsAsked}
@@ -105,6 +106,11 @@ view_stops_unasked by old new g g2 stop.Spoiled rests = ap (λ (x : Lcg). Planne
 view_stops_unasked by old new g g2 stop.NotNow rests = tt
 view_stops_unasked by old new g g2 stop.LogFull rests = ap (λ (x : Lcg). Planner x) rests
 view_stops_unasked by old new g g2 stop.Memory rests = tt
+
+-- of an executive's view nothing more is said
+pub executive_rests : (by : Author) (r r2 : Role) (old new : PlanPass) (v : Result View Stop) → r ≡ Executive → ViewRests by r old v r2 new
+executive_rests by (Planner g) r2 old new v is = absurd (cc)
+executive_rests by Executive r2 old new v is = tt
 
 -- ---- a view, and what settles behind it
 

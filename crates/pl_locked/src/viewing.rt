@@ -86,6 +86,7 @@ impl SharedPlan {
     }
 
     /// The first turn of an act. With `at_once` it may be the only one: see `look`.
+    #[tactic(auto, using(crate::proofs::Halves::executive_rests))]
     pub(crate) fn begin<R: Wait>(
         &self,
         rt: &R,
