@@ -1,10 +1,10 @@
 //! The two halves of a planner's act: its chooser is asked between two turns.
-ghost use Rattle.std.specs.Prelude.{◌≡◌};
+ghost use Rattle.std.specs.Prelude.{◌≡◌, false};
 ghost use Rattle.pl_turn.specs.Passes.{seen_of};
 ghost use Rattle.pl_marks.specs.Authors.{IsAuthor};
 ghost use Rattle.pl_acts.specs.Roles.{worker_of, role_author};
 ghost use Rattle.pl_locked.specs.Plans.{BelongsTo};
-ghost use Rattle.pl_locked.specs.Turns.{TakesTurn, Acts, Looks, Views, CanSettle, Settles, SettlesAs};
+ghost use Rattle.pl_locked.specs.Turns.{TakesTurn, Acts, Looks, LookRests, Views, ViewRests, CanSettle, Settles, SettlesAs};
 
 use crate::plan::{Pass, SharedPlan};
 use pl_acts::{Acted, Looked, Role, Sight, View, ask};
@@ -47,6 +47,7 @@ impl SharedPlan {
         ensures own { BelongsTo self.now pass.new }
         ensures takes { TakesTurn pass.old pass.new }
         ensures looks { Looks by chooser.old pass.old result chooser.new pass.new }
+        ensures rests { at_once ≡ false → LookRests by chooser.old pass.old result chooser.new pass.new }
     {
         let mut held = self.enter(rt, pass);
         let before = held.busy();
@@ -58,7 +59,7 @@ impl SharedPlan {
         looked
     }
 
-    #[tactic(auto, using(crate::proofs::Halves::viewed, crate::proofs::Halves::view_stops))]
+    #[tactic(auto, using(crate::proofs::Halves::viewed, crate::proofs::Halves::viewed_rests, crate::proofs::Halves::view_stops, crate::proofs::Halves::view_stops_unasked))]
     fn view_plan<R: Wait>(
         &self,
         rt: &R,
@@ -73,6 +74,7 @@ impl SharedPlan {
         ensures own { BelongsTo self.now pass.new }
         ensures takes { TakesTurn pass.old pass.new }
         ensures views { Views by (Role.Planner chooser.old) pass.old result (Role.Planner chooser.new) pass.new }
+        ensures rests { at_once ≡ false → ViewRests by (Role.Planner chooser.old) pass.old result (Role.Planner chooser.new) pass.new }
     {
         match self.look(rt, alloc, pass, by, chooser, at_once)? {
             Looked::Settled(acted) => Ok(View::Settled(acted)),
@@ -84,6 +86,7 @@ impl SharedPlan {
     }
 
     /// The first turn of an act. With `at_once` it may be the only one: see `look`.
+    #[tactic(auto, using(crate::proofs::Halves::executive_rests))]
     pub(crate) fn begin<R: Wait>(
         &self,
         rt: &R,
@@ -98,6 +101,7 @@ impl SharedPlan {
         ensures own { BelongsTo self.now pass.new }
         ensures takes { TakesTurn pass.old pass.new }
         ensures views { Views by role.old pass.old result role.new pass.new }
+        ensures rests { at_once ≡ false → ViewRests by role.old pass.old result role.new pass.new }
     {
         match role {
             Role::Planner(chooser) => self.view_plan(rt, alloc, pass, by, chooser, at_once),
@@ -123,6 +127,7 @@ impl SharedPlan {
         ensures own { BelongsTo self.now pass.new }
         ensures takes { TakesTurn pass.old pass.new }
         ensures views { Views by role.old pass.old result role.new pass.new }
+        ensures rests { ViewRests by role.old pass.old result role.new pass.new }
     {
         self.begin(rt, alloc, pass, by, role, false)
     }
@@ -139,6 +144,7 @@ impl SharedPlan {
         ensures own { BelongsTo self.now pass.new }
         ensures takes { TakesTurn pass.old pass.new }
         ensures views { Views (role_author role.old) role.old pass.old result role.new pass.new }
+        ensures rests { ViewRests (role_author role.old) role.old pass.old result role.new pass.new }
     {
         let by = role.author();
         self.view_as(rt, alloc, pass, by, role)
