@@ -92,12 +92,7 @@ impl Answer {
 }
 
 // An answer after a change of the plan, unless it is no longer near or memory is wanting.
-fn kept(
-    alloc: Global,
-    answer: Answer,
-    left: &[Activity],
-    more: &[Activity],
-) -> Option<Answer>
+fn kept(alloc: Global, answer: Answer, left: &[Activity], more: &[Activity]) -> Option<Answer>
     ensures { (s t : PlanState) → IsMadeFrom s t left.now more.now → Holds s answer → IfSome result (Holds t) }
 {
     let Ok(changed) = answer.changed(alloc, left, more) else {

@@ -11,10 +11,11 @@ loop-answer-preserved-in-Continue-branch-2 c = λ s t made holds.
     let rest = into_iter_items c.next.new.self in
     let near = c.in-Some-kept.near in
     let all = c.loop-answer.all.items in
-    let left : All (Holds s) (first ∷ rest) = rw c.in-Some.ensures.steps.0 at at.0 in
-    (All-tail (Holds s) first rest left,
-    All-same (Holds t) c.push.new.self.items (all ++ near ∷ []) c.in_ok-push.ensures.items
-    (All-push (Holds t) all near at.1 (c.in-Some-kept.ensures s t made (All-head (Holds s) first rest left))))
+    let left : All (Holds s) (first ∷ rest) = rw c.in-Some.ensures.steps.0 at at.0 in (
+      All-tail (Holds s) first rest left,
+      All-same (Holds t) c.push.new.self.items (all ++ near ∷ []) c.in_ok-push.ensures.items
+          (All-push (Holds t) all near at.1 (c.in-Some-kept.ensures s t made (All-head (Holds s) first rest left))),
+    )
 
 pub loop-answer-preserved : goal.loop-answer-preserved
 loop-answer-preserved c = λ s t made holds.
