@@ -6,7 +6,7 @@ use Rattle.pl_memo.specs.declared.memory.Memory.{Memory}
 use Rattle.pl_memo.specs.Memories.{AreRemembered, IsMadeFrom, going}
 use Rattle.pl_memo.proofs.Remembering.{none_remembered, remembered_after}
 use Rattle.pl_board.proofs.Once.{once_rising}
-use Rattle.pl_board.proofs.board.Board.memory_after.Goals.{in-Ok, in-Err+in-Some-1, in-Err+in-None-1}
+use Rattle.pl_board.proofs.board.Board.memory_after.Goals.{in-Ok, in-Err}
 use Rattle.pl_board.proofs.board.Board.memory_after.Goals as goal
 
 pub returns-clause-remembered : goal.returns-clause-remembered
@@ -26,7 +26,6 @@ returns-clause-remembered c = λ unspoiled.
           rw b.result-is (b.changed.ensures t u (rw is made) (rw c.replace-memory.ensures.value are)) in
           remembered_after s gone more c.self.inside.memory result (c.self.invariant.watched sound).whole
           (once_rising gone (c.are_rising.ensures c.if-not-are_rising.false)) can changed (c.self.invariant.remembered sound)
-      | in-Err+in-Some-1 b ↦ none_remembered (with_plan gone more s) result (b.result-is ∙ b.new-in-Err.ensures)
-      | in-Err+in-None-1 b ↦ none_remembered (with_plan gone more s) result (b.result-is ∙ b.new-in-Err.ensures)
+      | in-Err b ↦ none_remembered (with_plan gone more s) result (b.result-is ∙ b.new-in-Err.ensures)
     ] in
     rw (← c.self.view_is) after
