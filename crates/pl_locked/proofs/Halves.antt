@@ -1,5 +1,6 @@
 -- Both halves of a planner's act.
 use Rattle.std.proofs.Common.{◌≡◌, ℕ, ◌≤◌, List, [], ◌∷◌, ◌++◌, length, true, false, Option, Some, None, Result, Ok, Err, refl, sym, ◌∙◌, ap, subst, ◌⊎◌, inl, inr, arith, append_assoc}
+use Rattle.std.specs.Result.{IsErrAnd}
 use mathlib.Core.List.{IsPrefix}
 use Rattle.pl_turn.specs.Passes.{seen_of}
 use Rattle.pl_turn.proofs.Histories.{prefix_self, prefix_trans, prefix_length}
@@ -101,11 +102,15 @@ viewed_rests by old new g g2 acted.Nothing rests = ap (λ (x : Lcg). Planner x) 
 viewed_rests by old new g g2 acted.Finished rests = ap (λ (x : Lcg). Planner x) rests
 viewed_rests by old new g g2 acted.Stopped rests = ap (λ (x : Lcg). Planner x) rests
 
-pub view_stops_unasked : (by : Author) (old new : PlanPass) (g g2 : Lcg) (s : Stop) → LookRests by g old (Err s) g2 new → ViewRests by (Planner g) old (Err s) (Planner g2) new
+view_stops_unasked : (by : Author) (old new : PlanPass) (g g2 : Lcg) (s : Stop) → LookRests by g old (Err s) g2 new → ViewRests by (Planner g) old (Err s) (Planner g2) new
 view_stops_unasked by old new g g2 stop.Spoiled rests = ap (λ (x : Lcg). Planner x) rests
 view_stops_unasked by old new g g2 stop.NotNow rests = tt
 view_stops_unasked by old new g g2 stop.LogFull rests = ap (λ (x : Lcg). Planner x) rests
 view_stops_unasked by old new g g2 stop.Memory rests = tt
+
+pub view_gives_unasked : (by : Author) (old new : PlanPass) (g g2 : Lcg) (v : Result View Stop) (s : Stop) → IsErrAnd v (λ given. given ≡ s) → LookRests by g old (Err s) g2 new → ViewRests by (Planner g) old v (Planner g2) new
+view_gives_unasked by old new g g2 (Ok v) s is rests = absurd is
+view_gives_unasked by old new g g2 (Err given) s is rests = subst (λ (t : Stop). ViewRests by (Planner g) old (Err t) (Planner g2) new) (sym is) (view_stops_unasked by old new g g2 s rests)
 
 -- of an executive's view nothing more is said
 pub executive_rests : (by : Author) (r r2 : Role) (old new : PlanPass) (v : Result View Stop) → r ≡ Executive → ViewRests by r old v r2 new

@@ -59,7 +59,7 @@ impl SharedPlan {
         looked
     }
 
-    #[tactic(auto, using(crate::proofs::Halves::viewed, crate::proofs::Halves::viewed_rests, crate::proofs::Halves::view_stops, crate::proofs::Halves::view_stops_unasked))]
+    #[tactic(auto, using(crate::proofs::Halves::viewed, crate::proofs::Halves::view_stops))]
     fn view_plan<R: Wait>(
         &self,
         rt: &R,
@@ -86,7 +86,6 @@ impl SharedPlan {
     }
 
     /// The first turn of an act. With `at_once` it may be the only one: see `look`.
-    #[tactic(auto, using(crate::proofs::Halves::executive_rests))]
     pub(crate) fn begin<R: Wait>(
         &self,
         rt: &R,
