@@ -1,7 +1,7 @@
 //! A planner repairs in the turn in which it looks, where nobody else has anything to do.
-ghost use Rattle.std.specs.Prelude.{◌≡◌, true};
+ghost use Rattle.std.specs.Prelude.{◌≡◌, true, false};
 ghost use Rattle.pl_marks.specs.Authors.{IsAuthor};
-ghost use Rattle.pl_acts.specs.Inside.{MayRepair, RepairsIn, LooksOrRepairs};
+ghost use Rattle.pl_acts.specs.Inside.{LooksIn, MayRepair, RepairsIn, LooksOrRepairs};
 
 use crate::held::Held;
 use crate::look::Looked;
@@ -59,7 +59,8 @@ impl Held {
         alloc: Global,
     ) -> Result<Looked, Stop>
         requires { IsAuthor by }
-        ensures { LooksOrRepairs by chooser.old self.old result chooser.new self.new }
+        ensures acts { LooksOrRepairs by chooser.old self.old result chooser.new self.new }
+        ensures looks { at_once ≡ false → LooksIn by self.old result self.new × (chooser.new ≡ chooser.old) }
     {
         let only = self.plan.is_only_planner(by);
         if at_once && only && self.busy().is_for_planners() && self.may_repair() {

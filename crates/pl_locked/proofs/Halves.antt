@@ -1,5 +1,6 @@
 -- Both halves of a planner's act.
 use Rattle.std.proofs.Common.{◌≡◌, ℕ, ◌≤◌, List, [], ◌∷◌, ◌++◌, length, true, false, Option, Some, None, Result, Ok, Err, refl, sym, ◌∙◌, ap, subst, ◌⊎◌, inl, inr, arith, append_assoc}
+use Rattle.std.specs.Result.{IsErrAnd}
 use mathlib.Core.List.{IsPrefix}
 use Rattle.pl_turn.specs.Passes.{seen_of}
 use Rattle.pl_turn.proofs.Histories.{prefix_self, prefix_trans, prefix_length}
@@ -24,6 +25,7 @@ use Rattle.pl_acts.specs.declared.role.Acted.TheVariants as acted
 use Rattle.pl_acts.specs.declared.draft.Draft.{Draft}
 use Rattle.pl_acts.specs.declared.look.Looked.TheVariants as looked
 use Rattle.pl_acts.specs.declared.sight.Sight.{Sight}
+use Rattle.pl_acts.specs.declared.sight.View.{View}
 use Rattle.pl_acts.specs.declared.sight.View.TheVariants as view
 use Rattle.pl_acts.specs.Items.{items_of, stop_in, entries_in, InWorld}
 use Rattle.pl_acts.specs.Replicas.{log_of, IsAsked}
@@ -34,7 +36,7 @@ use Rattle.pl_acts.proofs.FullLogs.{in_world_on}
 use Rattle.pl_acts.proofs.Items.{in_world_of, stop_in_same, length_going}
 use Rattle.pl_acts.proofs.Replicas.{replica_of}
 use Rattle.pl_locked.specs.Plans.{PlanPass}
-use Rattle.pl_locked.specs.Turns.{TakesTurn, MakesNothing, low_of, Acts, Lends, Looks, Sees, CanSettle, Views, IsSettled, Settles, SettlesAs}
+use Rattle.pl_locked.specs.Turns.{TakesTurn, MakesNothing, low_of, Acts, Lends, Looks, LookRests, Sees, CanSettle, Views, ViewRests, IsSettled, Settles, SettlesAs}
 
 -- ---- a view
 
@@ -93,6 +95,27 @@ ask_stops by old new g g1 g2 draft on looks once =
 
 pub viewed : (by : Author) (old new : PlanPass) (g g2 : Lcg) (a : Acted) → Looks by g old (Ok (looked.Settled a)) g2 new → Views by (Planner g) old (Ok (view.Settled a)) (Planner g2) new
 viewed by old new g g2 a looks = looks
+
+pub viewed_rests : (by : Author) (old new : PlanPass) (g g2 : Lcg) (a : Acted) → LookRests by g old (Ok (looked.Settled a)) g2 new → ViewRests by (Planner g) old (Ok (view.Settled a)) (Planner g2) new
+viewed_rests by old new g g2 (acted.Did n) rests = (rests.0, ap (λ (x : Lcg). Planner x) rests.1)
+viewed_rests by old new g g2 acted.Nothing rests = ap (λ (x : Lcg). Planner x) rests
+viewed_rests by old new g g2 acted.Finished rests = ap (λ (x : Lcg). Planner x) rests
+viewed_rests by old new g g2 acted.Stopped rests = ap (λ (x : Lcg). Planner x) rests
+
+view_stops_unasked : (by : Author) (old new : PlanPass) (g g2 : Lcg) (s : Stop) → LookRests by g old (Err s) g2 new → ViewRests by (Planner g) old (Err s) (Planner g2) new
+view_stops_unasked by old new g g2 stop.Spoiled rests = ap (λ (x : Lcg). Planner x) rests
+view_stops_unasked by old new g g2 stop.NotNow rests = tt
+view_stops_unasked by old new g g2 stop.LogFull rests = ap (λ (x : Lcg). Planner x) rests
+view_stops_unasked by old new g g2 stop.Memory rests = tt
+
+pub view_gives_unasked : (by : Author) (old new : PlanPass) (g g2 : Lcg) (v : Result View Stop) (s : Stop) → IsErrAnd v (λ given. given ≡ s) → LookRests by g old (Err s) g2 new → ViewRests by (Planner g) old v (Planner g2) new
+view_gives_unasked by old new g g2 (Ok v) s is rests = absurd is
+view_gives_unasked by old new g g2 (Err given) s is rests = subst (λ (t : Stop). ViewRests by (Planner g) old (Err t) (Planner g2) new) (sym is) (view_stops_unasked by old new g g2 s rests)
+
+-- of an executive's view nothing more is said
+pub executive_rests : (by : Author) (r r2 : Role) (old new : PlanPass) (v : Result View Stop) → r ≡ Executive → ViewRests by r old v r2 new
+executive_rests by (Planner g) r2 old new v is = absurd (cc)
+executive_rests by Executive r2 old new v is = tt
 
 -- ---- a view, and what settles behind it
 

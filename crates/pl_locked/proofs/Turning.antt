@@ -52,7 +52,7 @@ use Rattle.pl_acts.proofs.Growing.{keeps_items, logs_items, stopped_first, same_
 use Rattle.pl_acts.proofs.Items.{length_going, model_in_items, opening_in_items, in_world_of, in_world, world_in, prefix_whole, stop_in_same, entries_in_items}
 use Rattle.pl_locked.specs.declared.plan.SharedPlan.{SharedPlan}
 use Rattle.pl_locked.specs.Plans.{PlanPass, BelongsTo, Closes}
-use Rattle.pl_locked.specs.Turns.{TakesTurn, Makes, MakesNothing, low_of, Feeds, Acts, Lends, Looks, CanSettle, IsSettled, Settles, Stops, was_stopped, is_stopped}
+use Rattle.pl_locked.specs.Turns.{TakesTurn, Makes, MakesNothing, low_of, Feeds, Acts, Lends, Looks, LookRests, CanSettle, IsSettled, Settles, Stops, was_stopped, is_stopped}
 
 -- a turn begins
 pub enters : (old mid : PlanPass) → IsPlan (seen_of old) → IsPrefix (seen_of old) (seen_of mid) → counted_of old ≤ length (seen_of mid)
@@ -267,6 +267,17 @@ module _ (old mid new : PlanPass) (held held2 : Held) (turn : Turn old mid new h
   looked_at by g (Ok (looked.Settled a)) looks = looked_over by g a looks
   looked_at by g (Ok (looked.Open draft)) looks = (opened by draft looks, refl)
   looked_at by g (Err s) looks = look_stops by g s looks
+
+  -- what a look makes is a rest, and the chooser is not asked for it
+  pub look_rests : (by : Author) (g g2 : Lcg) (a : Result Looked Stop) → LooksIn by held a held2 → g2 ≡ g → LookRests by g old a g2 new
+  look_rests by g g2 (Ok (looked.Settled (acted.Did n))) looks same =
+      let history = turn.sound.history looks.0.unspoiled in
+      (made_one RestsAtOnce (λ before e. InWorld before (λ w. RestsAtOnce w e)) by n history looks.0 (λ before is on. here (λ w. RestsAtOnce w looks.0.entry) before is history looks.0.by), same)
+  look_rests by g g2 (Ok (looked.Settled acted.Nothing)) looks same = same
+  look_rests by g g2 (Ok (looked.Settled acted.Finished)) looks same = same
+  look_rests by g g2 (Ok (looked.Settled acted.Stopped)) looks same = same
+  look_rests by g g2 (Ok (looked.Open draft)) looks same = same
+  look_rests by g g2 (Err s) looks same = same
 
   -- ---- a planner repairs in the turn in which it looks
 

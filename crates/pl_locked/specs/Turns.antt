@@ -33,7 +33,7 @@ use Rattle.pl_acts.specs.Items.{model_in, signer_in, stop_in, InWorld}
 use Rattle.pl_acts.specs.Roles.{worker_of, has_event, IsInputOf, kind_of, is_entry}
 use Rattle.pl_acts.specs.Replicas.{IsReplicaOf, IsDraftOf}
 use Rattle.pl_acts.specs.Sights.{AsksIn, HasRoomIn, IsSight, IsDueBy, IsKept, IsAskedAtMost}
-use Rattle.pl_acts.specs.Inside.{IsStepIn, can_listen}
+use Rattle.pl_acts.specs.Inside.{IsStepIn, RestsAtOnce, can_listen}
 use Rattle.pl_acts.specs.Making.{MakesAll}
 use Rattle.pl_acts.specs.Seen.{IsFull, IsOver, WasAskedAtMost}
 use Rattle.pl_locked.specs.Plans.{PlanPass}
@@ -95,6 +95,11 @@ Looks by g old (Ok (looked.Settled a)) g2 new = Acts by (Planner g) old (Ok a) (
 Looks by g old (Ok (looked.Open draft)) g2 new = Lends old draft new × (g2 ≡ g)
 Looks by g old (Err s) g2 new = Acts by (Planner g) old (Err s) (Planner g2) new
 
+-- The same of a planner's first turn, where its act takes two: the chooser is not asked in it, and an entry that it makes is a rest for a plain reason.
+abbrev pub LookRests : Author → Lcg → PlanPass → Result Looked Stop → Lcg → PlanPass → Type 0
+LookRests by g old (Ok (looked.Settled (acted.Did number))) g2 new = Makes (λ before e. InWorld before (λ w. RestsAtOnce w e)) by old new number × (g2 ≡ g)
+LookRests by g old a g2 new = g2 ≡ g
+
 -- The chooser was asked in the world after all that the pass has seen behind the call, and has drawn its words once.
 pub record Sees (r : Role) (old new : PlanPass) (sight : Sight) (r2 : Role) : Type 0 where
   pub before : Lcg
@@ -120,6 +125,14 @@ abbrev pub Views : Author → Role → PlanPass → Result View Stop → Role �
 Views by r old (Ok (view.Settled a)) r2 new = Acts by r old (Ok a) r2 new
 Views by r old (Ok (view.Copy sight)) r2 new = Sees r old new sight r2
 Views by r old (Err s) r2 new = Acts by r old (Err s) r2 new
+
+-- An entry that a planner's view makes is a rest for a plain reason. Its chooser is asked for a sight alone; where memory was wanting, it may have been asked for one.
+abbrev pub ViewRests : Author → Role → PlanPass → Result View Stop → Role → PlanPass → Type 0
+ViewRests by (Planner g) old (Ok (view.Settled (acted.Did number))) r2 new = Makes (λ before e. InWorld before (λ w. RestsAtOnce w e)) by old new number × (r2 ≡ Planner g)
+ViewRests by (Planner g) old (Ok (view.Settled a)) r2 new = r2 ≡ Planner g
+ViewRests by (Planner g) old (Err stop.LogFull) r2 new = r2 ≡ Planner g
+ViewRests by (Planner g) old (Err stop.Spoiled) r2 new = r2 ≡ Planner g
+ViewRests by r old a r2 new = Unit {0}
 
 -- A fix is the sight's, and made if the sight was the whole history; or, without a proposal, the one that the chooser proposes in the
 -- world before, which is made. Repair rests where the turns are spent, or where there was no proposal.

@@ -1,10 +1,10 @@
 //! The two halves of a planner's act: its chooser is asked between two turns.
-ghost use Rattle.std.specs.Prelude.{◌≡◌};
+ghost use Rattle.std.specs.Prelude.{◌≡◌, false};
 ghost use Rattle.pl_turn.specs.Passes.{seen_of};
 ghost use Rattle.pl_marks.specs.Authors.{IsAuthor};
 ghost use Rattle.pl_acts.specs.Roles.{worker_of, role_author};
 ghost use Rattle.pl_locked.specs.Plans.{BelongsTo};
-ghost use Rattle.pl_locked.specs.Turns.{TakesTurn, Acts, Looks, Views, CanSettle, Settles, SettlesAs};
+ghost use Rattle.pl_locked.specs.Turns.{TakesTurn, Acts, Looks, LookRests, Views, ViewRests, CanSettle, Settles, SettlesAs};
 
 use crate::plan::{Pass, SharedPlan};
 use pl_acts::{Acted, Looked, Role, Sight, View, ask};
@@ -47,6 +47,7 @@ impl SharedPlan {
         ensures own { BelongsTo self.now pass.new }
         ensures takes { TakesTurn pass.old pass.new }
         ensures looks { Looks by chooser.old pass.old result chooser.new pass.new }
+        ensures rests { at_once ≡ false → LookRests by chooser.old pass.old result chooser.new pass.new }
     {
         let mut held = self.enter(rt, pass);
         let before = held.busy();
@@ -73,6 +74,7 @@ impl SharedPlan {
         ensures own { BelongsTo self.now pass.new }
         ensures takes { TakesTurn pass.old pass.new }
         ensures views { Views by (Role.Planner chooser.old) pass.old result (Role.Planner chooser.new) pass.new }
+        ensures rests { at_once ≡ false → ViewRests by (Role.Planner chooser.old) pass.old result (Role.Planner chooser.new) pass.new }
     {
         match self.look(rt, alloc, pass, by, chooser, at_once)? {
             Looked::Settled(acted) => Ok(View::Settled(acted)),
@@ -98,6 +100,7 @@ impl SharedPlan {
         ensures own { BelongsTo self.now pass.new }
         ensures takes { TakesTurn pass.old pass.new }
         ensures views { Views by role.old pass.old result role.new pass.new }
+        ensures rests { at_once ≡ false → ViewRests by role.old pass.old result role.new pass.new }
     {
         match role {
             Role::Planner(chooser) => self.view_plan(rt, alloc, pass, by, chooser, at_once),
@@ -123,6 +126,7 @@ impl SharedPlan {
         ensures own { BelongsTo self.now pass.new }
         ensures takes { TakesTurn pass.old pass.new }
         ensures views { Views by role.old pass.old result role.new pass.new }
+        ensures rests { ViewRests by role.old pass.old result role.new pass.new }
     {
         self.begin(rt, alloc, pass, by, role, false)
     }
@@ -139,6 +143,7 @@ impl SharedPlan {
         ensures own { BelongsTo self.now pass.new }
         ensures takes { TakesTurn pass.old pass.new }
         ensures views { Views (role_author role.old) role.old pass.old result role.new pass.new }
+        ensures rests { ViewRests (role_author role.old) role.old pass.old result role.new pass.new }
     {
         let by = role.author();
         self.view_as(rt, alloc, pass, by, role)

@@ -16,7 +16,7 @@ use Rattle.pl_acts.specs.declared.sight.View.{View}
 use Rattle.pl_acts.specs.Items.{handed_in, items_of}
 use Rattle.pl_acts.specs.Roles.{worker_of}
 use Rattle.pl_locked.specs.Plans.{PlanPass, BelongsTo}
-use Rattle.pl_locked.specs.Turns.{Acts, Views, SettlesAs}
+use Rattle.pl_locked.specs.Turns.{Acts, Views, ViewRests, SettlesAs}
 use Rattle.pl_locked.specs.declared.plan.SharedPlan.{SharedPlan}
 use Rattle.pl_pair.specs.Duties.{chooser_of}
 use Rattle.pl_pair.specs.Joins.{IsFresh, Splits}
@@ -119,6 +119,9 @@ ActsAs old result new = InRole (λ r r2. Acts old.author r old.pass result r2 ne
 
 abbrev pub ViewsAs : Member → Result View Stop → Member → Type 0
 ViewsAs old result new = InRole (λ r r2. Views old.author r old.pass result r2 new.pass) old new
+
+abbrev pub ViewRestsAs : Member → Result View Stop → Member → Type 0
+ViewRestsAs old result new = InRole (λ r r2. ViewRests old.author r old.pass result r2 new.pass) old new
 
 abbrev pub SettlesBy : Sight → Member → Result Acted Stop → Member → Type 0
 SettlesBy sight old result new = InRole (λ r r2. SettlesAs old.author r sight old.pass result r2 new.pass) old new

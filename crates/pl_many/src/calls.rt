@@ -6,7 +6,7 @@ ghost use Rattle.pl_entry.specs.Bounds.{IsMessageLine};
 ghost use Rattle.pl_marks.specs.declared.author.Author.TheVariants.{Feeder, Executive};
 ghost use Rattle.pl_acts.specs.Seen.{Copies};
 ghost use Rattle.pl_locked.specs.Turns.{TakesTurn, Feeds, Stops, CanSettle};
-ghost use Rattle.pl_many.specs.Members.{IsMember, ActsAs, ViewsAs, SettlesBy, SameMember};
+ghost use Rattle.pl_many.specs.Members.{IsMember, ActsAs, ViewsAs, ViewRestsAs, SettlesBy, SameMember};
 
 use crate::crew::Crew;
 use crate::member::Member;
@@ -43,6 +43,7 @@ impl Crew {
         ensures own { IsMember self.now member.new }
         ensures takes { TakesTurn member.old.pass member.new.pass }
         ensures views { ViewsAs member.old result member.new }
+        ensures rests { ViewRestsAs member.old result member.new }
     {
         let author = member.author;
         match &mut member.role {
