@@ -3,19 +3,20 @@ ghost use Rattle.std.specs.Option.{option_copied};
 ghost use Rattle.pl_model.specs.Checked.{IsCapacityLine, IsLevelLine};
 ghost use Rattle.pl_points.specs.Sums.{IsSmall};
 ghost use Rattle.pl_points.specs.Points.{is_out};
-ghost use Rattle.pl_semantics.specs.Demands.{demands_of, musts_of, use_at, level_at, state_at};
+ghost use Rattle.pl_semantics.specs.Demands.{demands_of, sets_of, musts_of, use_at, level_at, state_at};
 ghost use Rattle.pl_detect.specs.Based.{IsStateLine};
 ghost use Rattle.pl_semantics.specs.PlanStates.{floor_of};
 ghost use Rattle.pl_state.specs.declared.reservation.Must.{Must};
 ghost use Rattle.pl_state.specs.Keys.{Has};
 ghost use Rattle.pl_state.specs.Musts.{holds_at};
+ghost use Rattle.pl_state.specs.Sets.{last_by};
 ghost use Rattle.pl_update.specs.Evaluations.Kept.{come_to};
 
 use crate::board::Board;
 use pl_facts::{Bases, Goals};
 use pl_model::Model;
 use pl_plan::{Evaluated, Plan};
-use pl_state::Must;
+use pl_state::{Must, Setting};
 use std::alloc::AllocError;
 
 impl Board {
@@ -152,6 +153,19 @@ impl Board {
             return 0;
         }
         self.watched().lines.state_at(line, t)
+    }
+
+    /// The last set of the timeline that is at a moment or before it, if there is one, under the same conditions. A spoiled board tells none.
+    pub fn last_set(&self, line: u32, t: u32) -> Option<Setting>
+        requires states { self.now.spoiled ≡ false → IsStateLine (slice_get self.now.state.model.timelines line) }
+        requires now { self.now.spoiled ≡ false → self.now.state.moment ≤ t }
+        requires before_horizon { self.now.spoiled ≡ false → t < self.now.state.model.horizon }
+        ensures { self.now.spoiled ≡ false → result ≡ last_by t (sets_of line (demands_of self.now.state)) }
+    {
+        if self.spoiled() {
+            return None;
+        }
+        self.watched().lines.last_set(line, t)
     }
 
     /// The musts that need their states of the timeline at a moment, under the same conditions. A spoiled board tells none.

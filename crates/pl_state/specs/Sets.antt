@@ -1,5 +1,5 @@
 -- Sets of a state, in order, and the state that they leave.
-use Rattle.std.specs.Prelude.{ℕ, ◌≤◌, ◌&&◌, ◌||◌, ◌==◌, not, nat_lt, nat_le, Bool, false, List, [], ◌∷◌, ◌++◌, if◌then◌else◌}
+use Rattle.std.specs.Prelude.{ℕ, ◌-◌, ◌≤◌, ◌&&◌, ◌||◌, ◌==◌, not, nat_lt, nat_le, Bool, false, List, [], ◌∷◌, ◌++◌, length, slice_get, Option, if◌then◌else◌}
 use Rattle.pl_lists.specs.Lists.{front, back}
 use Rattle.pl_state.specs.declared.reservation.Setting.{Setting}
 use Rattle.pl_state.specs.declared.answer.BadSet.{BadSet}
@@ -31,6 +31,10 @@ AreInOrder from (x ∷ xs) = (from ≤ x.at) × AreInOrder x.at xs
 
 abbrev pub is_passed : ℕ → Setting → Bool
 is_passed at x = nat_le x.at at
+
+-- of sets in order the last one at the moment or before it, if there is one
+abbrev pub last_by : ℕ → List Setting → Option Setting
+last_by at xs = slice_get (front (is_passed at) xs) (length (front (is_passed at) xs) - 1)
 
 -- the state that the last set after the base's moment up to this one leaves, else the one given
 abbrev pub state_from : ℕ → ℕ → ℕ → List Setting → ℕ

@@ -5,6 +5,7 @@ mod allowed;
 mod answer;
 mod bound;
 mod change;
+mod deciding;
 mod filling;
 mod finding;
 mod groups;

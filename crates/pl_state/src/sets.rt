@@ -1,7 +1,7 @@
 ghost use Rattle.std.specs.Prelude.{◌≡◌, ◌<◌, ◌≤◌, ◌-◌, [], ℕ, List, length, take, drop, min, max, slice_index_or, OnOk, IfOk};
 ghost use Rattle.pl_lists.specs.Lists.{front, back};
 ghost use Rattle.pl_points.specs.Standing.{without};
-ghost use Rattle.pl_state.specs.Sets.{set_key, set_before, same_setting, with_set, state_from, is_allowed, bad_from, is_passed, AreInOrder};
+ghost use Rattle.pl_state.specs.Sets.{set_key, set_before, same_setting, with_set, state_from, is_allowed, bad_from, is_passed, AreInOrder, last_by};
 ghost use Rattle.pl_state.specs.Keys.{AreSorted};
 ghost use Rattle.pl_state.specs.Near.{next_moment, rest_after, comes_before, state_before};
 
@@ -100,6 +100,17 @@ impl Sets {
         ensures rest { drop result self.now ≡ back (is_passed at) self.now }
     {
         self.items.count(Bound::By(at))
+    }
+
+    // The last set at the moment or before it.
+    pub(crate) fn last_by(&self, at: u32) -> Option<Setting>
+        ensures { result ≡ last_by at self.now }
+    {
+        let count = self.passed_count(at);
+        if count == 0 {
+            return None;
+        }
+        Some(self.at(count - 1))
     }
 
     // The place behind the sets from a place on that are at the moment or before it.

@@ -23,7 +23,7 @@ use std::marker::Model;
 #[derive(Drop)]
 pub struct StateTimeline {
     spoiled: bool,
-    kept: Kept,
+    pub(crate) kept: Kept,
 }
 
 impl Model for StateTimeline {

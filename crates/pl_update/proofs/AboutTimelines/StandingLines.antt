@@ -133,6 +133,12 @@ module _ (s : PlanState) (lines : List Line) (are : AreLinesOf s lines) (line : 
       let fresh = state_sorted x there.0 rising here there.2 in
       ap (λ (z : states.Standing). states.state_at z t) fresh.2
 
+  pub sets_now : (x : states.Standing) → AreRising s.plan.activities → slice_get lines line ≡ Some (States x) → x.sets ≡ sets_of line (demands_of s)
+  sets_now x rising here =
+      let there = framed_there s lines are.framed line (States x) here in
+      let fresh = state_sorted x there.0 rising here there.2 in
+      ap (λ (z : states.Standing). z.sets) fresh.2
+
   pub musts_now : (x : states.Standing) → AreRising s.plan.activities → slice_get lines line ≡ Some (States x) → x.musts ≡ musts_of line (demands_of s)
   musts_now x rising here =
       let there = framed_there s lines are.framed line (States x) here in

@@ -14,15 +14,15 @@ use Rattle.pl_state.specs.Timelines as state_lines
 use Rattle.pl_plan.specs.Activities.{AreRising}
 use Rattle.pl_semantics.specs.declared.plan_state.PlanState.{PlanState}
 use Rattle.pl_semantics.specs.Whole.{IsWhole, IsStateOf}
-use Rattle.pl_semantics.specs.Demands.{demands_of, musts_of, use_at, level_at, state_at}
+use Rattle.pl_semantics.specs.Demands.{demands_of, sets_of, musts_of, use_at, level_at, state_at}
 use Rattle.pl_detect.specs.Based.{IsStateLine}
 use Rattle.pl_update.specs.Changes.Changes.{CanTell}
 use Rattle.pl_update.specs.declared.timelines.line.Line.{Line}
 use Rattle.pl_update.specs.declared.timelines.line.Line.TheVariants.{Capacity, Level, States}
 use Rattle.pl_update.specs.Timelines.Framed.{bare, idle, AreFramed, AreLinesOf}
 use Rattle.pl_update.specs.Timelines.Moments.{MayReach, CanHave, CanHaveAt}
-use Rattle.pl_update.specs.Timelines.Readings.{IsCapacityAt, IsLevelAt, IsLevelIn, AreStatesAt, used_of, level_of, state_of, musts_standing}
-use Rattle.pl_update.proofs.AboutTimelines.StandingLines.{frame_at, framed_there, IsFramedAs, no_uses, no_effects, no_items, empty_capacity, empty_level, empty_states, same_capacity, same_level, same_states, used_now, level_now, state_now, musts_now}
+use Rattle.pl_update.specs.Timelines.Readings.{IsCapacityAt, IsLevelAt, IsLevelIn, AreStatesAt, used_of, level_of, state_of, sets_standing, musts_standing}
+use Rattle.pl_update.proofs.AboutTimelines.StandingLines.{frame_at, framed_there, IsFramedAs, no_uses, no_effects, no_items, empty_capacity, empty_level, empty_states, same_capacity, same_level, same_states, used_now, level_now, state_now, sets_now, musts_now}
 
 -- a timeline of the plan's horizon, at its present
 pub record IsAt (s : PlanState) (spoiled : Bool) (horizon moment : ℕ) : Type 0 where
@@ -145,6 +145,11 @@ module _ (s : PlanState) (lines : List Line) (are : AreLinesOf s lines) (line t 
   state_read rising of =
       let there = states_there s lines are.framed line of in
       ap (state_of t) there.1 ∙ state_now s lines are line there.0 rising there.1 t
+
+  pub sets_read : AreRising s.plan.activities → IsStateLine (slice_get s.model.timelines line) → sets_standing (slice_get lines line) ≡ sets_of line (demands_of s)
+  sets_read rising of =
+      let there = states_there s lines are.framed line of in
+      ap sets_standing there.1 ∙ sets_now s lines are line there.0 rising there.1
 
   pub musts_read : AreRising s.plan.activities → IsStateLine (slice_get s.model.timelines line) → musts_standing (slice_get lines line) ≡ musts_of line (demands_of s)
   musts_read rising of =

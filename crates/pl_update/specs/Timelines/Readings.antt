@@ -3,6 +3,7 @@ use Rattle.std.specs.Prelude.{◌≡◌, ℕ, ◌≤◌, ◌<◌, false, ℤ, po
 use Rattle.pl_capacity.specs.Uses.{used}
 use Rattle.pl_level.specs.Effects.{level}
 use Rattle.pl_state.specs.declared.reservation.Must.{Must}
+use Rattle.pl_state.specs.declared.reservation.Setting.{Setting}
 use Rattle.pl_state.specs.Timelines.{state_at}
 use Rattle.pl_update.specs.declared.timelines.line.Line.{Line}
 use Rattle.pl_update.specs.declared.timelines.line.Line.TheVariants.{Capacity, Level, States}
@@ -39,6 +40,11 @@ level_of t _ = pos 0
 abbrev pub state_of : ℕ → Option Line → ℕ
 state_of t (Some (States x)) = state_at x t
 state_of t _ = 0
+
+-- the sets that stand
+abbrev pub sets_standing : Option Line → List Setting
+sets_standing (Some (States x)) = x.sets
+sets_standing _ = []
 
 -- the musts that stand
 abbrev pub musts_standing : Option Line → List Must

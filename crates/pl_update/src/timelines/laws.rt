@@ -15,13 +15,13 @@ ghost use Rattle.pl_update.specs.Timelines.Laws.{AreOnce, gone_from, coming_to};
 ghost use Rattle.pl_update.specs.Timelines.Mending.{IsMoved, less, CanAsk};
 ghost use Rattle.pl_update.specs.Timelines.Moments.{at_moment, MayReach, CanHaveAt, rebased_in};
 ghost use Rattle.pl_update.specs.Timelines.Named.{AreNamed};
-ghost use Rattle.pl_update.specs.Timelines.Readings.{IsCapacityAt, IsLevelAt, IsLevelIn, AreStatesAt, used_of, level_of, state_of, musts_standing};
+ghost use Rattle.pl_update.specs.Timelines.Readings.{IsCapacityAt, IsLevelAt, IsLevelIn, AreStatesAt, used_of, level_of, state_of, sets_standing, musts_standing};
 ghost use Rattle.pl_update.specs.Timelines.Told.{wrong_at, IsTold};
 ghost use Rattle.pl_detect.specs.Based.{IsStateLine};
 ghost use Rattle.pl_model.specs.Checked.{IsCapacityLine, IsLevelLine};
 ghost use Rattle.pl_plan.specs.declared.activity.Activity.{Activity};
 ghost use Rattle.pl_state.specs.Timelines as states;
-ghost use Rattle.pl_semantics.specs.Demands.{demands_of, musts_of, use_at, level_at, state_at};
+ghost use Rattle.pl_semantics.specs.Demands.{demands_of, sets_of, musts_of, use_at, level_at, state_at};
 ghost use Rattle.pl_semantics.specs.Parts.{part_of, of_timelines};
 ghost use Rattle.pl_semantics.specs.Timelines.{lines_of, line_conflicts_of, timeline_conflicts};
 ghost use Rattle.pl_semantics.specs.Whole.{IsWhole};
@@ -60,7 +60,7 @@ pub fn laws_of_moments()
 {}
 
 /// Of timelines that hold what a plan asks for those may be read that the plan's model has of the sort, from the present on and
-/// up to the horizon, and they say what the plan does and have its musts. Their present may move on as the plan's may, and they may be told what it may be.
+/// up to the horizon, and they say what the plan does and have its sets and musts. Their present may move on as the plan's may, and they may be told what it may be.
 pub fn laws_of_readings()
     ensures may_use { (s : PlanState) (lines : List ALine) (line t : ℕ) → AreLinesOf s lines → IsCapacityLine (slice_get s.model.timelines line) → s.moment ≤ t → t < s.model.horizon → IsCapacityAt t (slice_get lines line) }
     ensures uses { (s : PlanState) (lines : List ALine) (line t : ℕ) → AreLinesOf s lines → IsCapacityLine (slice_get s.model.timelines line) → used_of t (slice_get lines line) ≡ use_at s line t }
@@ -69,6 +69,7 @@ pub fn laws_of_readings()
     ensures levels { (s : PlanState) (lines : List ALine) (line t : ℕ) → AreLinesOf s lines → IsLevelLine (slice_get s.model.timelines line) → level_of t (slice_get lines line) ≡ level_at s line t }
     ensures may_state { (s : PlanState) (lines : List ALine) (line t : ℕ) → AreLinesOf s lines → IsStateLine (slice_get s.model.timelines line) → s.moment ≤ t → t < s.model.horizon → AreStatesAt t (slice_get lines line) }
     ensures states { (s : PlanState) (lines : List ALine) (line t : ℕ) → IsWhole s → AreLinesOf s lines → IsStateLine (slice_get s.model.timelines line) → state_of t (slice_get lines line) ≡ state_at s line t }
+    ensures sets { (s : PlanState) (lines : List ALine) (line : ℕ) → IsWhole s → AreLinesOf s lines → IsStateLine (slice_get s.model.timelines line) → sets_standing (slice_get lines line) ≡ sets_of line (demands_of s) }
     ensures musts { (s : PlanState) (lines : List ALine) (line : ℕ) → IsWhole s → AreLinesOf s lines → IsStateLine (slice_get s.model.timelines line) → musts_standing (slice_get lines line) ≡ musts_of line (demands_of s) }
     ensures may_reach { (s : PlanState) (now : ℕ) (lines : List ALine) → AreLinesOf s lines → s.moment ≤ now → now ≤ s.model.horizon → All (MayReach now) lines }
     ensures may_tell { (s : PlanState) (line : ℕ) (value : ℤ) (lines : List ALine) → IsWhole s → AreLinesOf s lines → CanTell value (slice_get s.model.timelines line) → CanHaveAt value (slice_get lines line) }

@@ -5,12 +5,13 @@ ghost use Rattle.pl_points.specs.Points.{is_out};
 ghost use Rattle.pl_state.specs.declared.reservation.Must.{Must};
 ghost use Rattle.pl_state.specs.Keys.{Has};
 ghost use Rattle.pl_state.specs.Musts.{holds_at};
-ghost use Rattle.pl_update.specs.Timelines.Readings.{IsCapacityAt, IsLevelAt, IsLevelIn, AreStatesAt, used_of, level_of, state_of, musts_standing};
+ghost use Rattle.pl_state.specs.Sets.{last_by};
+ghost use Rattle.pl_update.specs.Timelines.Readings.{IsCapacityAt, IsLevelAt, IsLevelIn, AreStatesAt, used_of, level_of, state_of, sets_standing, musts_standing};
 
 use crate::timelines::line::Line;
 use crate::timelines::lines::Lines;
 use pl_points::{Quiet, Span, Steps};
-use pl_state::Must;
+use pl_state::{Must, Setting};
 use std::alloc::{AllocError, Global};
 
 impl Lines {
@@ -61,6 +62,17 @@ impl Lines {
     {
         match &self.all[line as usize] {
             Line::States(states) => states.at(t),
+            _ => unreachable!(),
+        }
+    }
+
+    /// The last set of the states that is at a moment or before it, if there is one.
+    pub fn last_set(&self, line: u32, t: u32) -> Option<Setting>
+        requires { AreStatesAt t (slice_get self.now line) }
+        ensures { result ≡ last_by t (sets_standing (slice_get self.now line)) }
+    {
+        match &self.all[line as usize] {
+            Line::States(states) => states.last_set(t),
             _ => unreachable!(),
         }
     }

@@ -60,7 +60,7 @@ fn at(rt: &impl Abort, timeline: &StateTimeline, moment: u32, t: u32) -> u32
     timeline.at(t)
 }
 
-// What a call answers: a state, what is wrong, how many musts need their states at a moment, or a change.
+// What a call answers: a state, the activity of the last set, what is wrong, how many musts need their states at a moment, or a change.
 fn answer(
     rt: &impl Abort,
     alloc: Global,
@@ -77,6 +77,10 @@ fn answer(
     match word(&mut rest) {
         "at" => format!(in alloc; "{}", at(rt, timeline, moment, number(&mut rest))),
         "wrong" => format!(in alloc; "{:?} {:?}", timeline.broken_musts(), timeline.bad_steps()),
+        "last" => format!(in alloc;
+            "{:?}",
+            timeline.last_set(number(&mut rest)).map(|set| set.id)
+        ),
         "needed" => format!(in alloc; "{}", timeline.musts_at(alloc, number(&mut rest))?.len()),
         name => {
             let change = ask(rt, timeline, asked(name, &mut rest))?;
@@ -104,6 +108,9 @@ const LOW_ID_FIRST: &str = "put 10 7 2
 put 10 3 1
 at 9 = 0
 at 10 = 2
+last 9 = None
+last 10 = Some(7)
+last 99 = Some(7)
 wrong = [] []";
 
 const LOW_ID_LAST: &str = "put 10 3 2

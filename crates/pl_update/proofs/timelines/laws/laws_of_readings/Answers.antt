@@ -1,4 +1,4 @@
-use Rattle.pl_update.proofs.AboutTimelines.StandingReadings.{capacity_at, used_at, level_readable, level_readable_in, level_read, state_readable, state_read, musts_read, may_reach, can_have}
+use Rattle.pl_update.proofs.AboutTimelines.StandingReadings.{capacity_at, used_at, level_readable, level_readable_in, level_read, state_readable, state_read, sets_read, musts_read, may_reach, can_have}
 use Rattle.pl_update.proofs.timelines.laws.laws_of_readings.Goals as goal
 
 pub returns-clause-may_use : goal.returns-clause-may_use
@@ -21,6 +21,9 @@ returns-clause-may_state c = λ s lines line t are of le lt. state_readable s li
 
 pub returns-clause-states : goal.returns-clause-states
 returns-clause-states c = λ s lines line t whole are of. state_read s lines are line t whole.rising of
+
+pub returns-clause-sets : goal.returns-clause-sets
+returns-clause-sets c = λ s lines line whole are of. sets_read s lines are line 0 whole.rising of
 
 pub returns-clause-musts : goal.returns-clause-musts
 returns-clause-musts c = λ s lines line whole are of. musts_read s lines are line 0 whole.rising of
