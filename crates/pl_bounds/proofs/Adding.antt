@@ -31,7 +31,7 @@ use Rattle.pl_bounds.specs.Askings.{IsAskingOf, only, without_goal}
 use Rattle.pl_bounds.specs.Moved.{demand_moved}
 use Rattle.pl_bounds.specs.declared.asking.Asking.{Asking}
 use Rattle.pl_bounds.proofs.Alike.{alike_add}
-use Rattle.pl_bounds.proofs.Asks.{asks, asks_found, asks_moved, ask_same}
+use Rattle.pl_bounds.proofs.Asks.{asks, asks_found, asks_moved}
 
 -- the last one is found, where all others have smaller ids
 found_last : (n : ℕ) (r : Activity) → r.id ≡ n → (xs : List Activity) → All (IsIdBelow n) xs → activity_of n (xs ++ r ∷ []) ≡ Some r
@@ -144,6 +144,6 @@ module _ (s : PlanState) (whole : IsWhole s) (next : s.next_id ≤ 3999999000) (
 
       at_start : (to : ℕ) → CanBeMade s (Add kind to goal) → IsAskedBy s [] (root_for s kind to goal ∷ []) a to
       at_start to there = record {
-        going = ask_same a.going.items [] going;
-        coming = ask_same (map (demand_moved a.start to) a.coming.items) (coming_to (with_plan [] (root_for s kind to goal ∷ []) s) (root_for s kind to goal ∷ [])) (ap (map (demand_moved a.start to)) coming ∙ (ap (λ (n : ℕ). map (demand_moved n to) (demands_of (only s (without_goal first)))) from ∙ moves to there));
+        going = going;
+        coming = ap (map (demand_moved a.start to)) coming ∙ (ap (λ (n : ℕ). map (demand_moved n to) (demands_of (only s (without_goal first)))) from ∙ moves to there);
       }

@@ -10,10 +10,9 @@ use Rattle.pl_plan.specs.Firm.{end_of, end_in, end_with}
 use Rattle.pl_plan.specs.Values.{Row}
 use Rattle.pl_semantics.specs.declared.demand.Demand.{Demand}
 use Rattle.pl_semantics.specs.declared.plan_state.PlanState.{PlanState}
-use Rattle.pl_semantics.specs.Demands.{asked_for, demands_until, demands_at, uses_of, effects_of}
+use Rattle.pl_semantics.specs.Demands.{asked_for, demands_until, demands_at}
 use Rattle.pl_semantics.specs.Moves.{moved}
 use Rattle.pl_semantics.specs.PlanStates.{found, row_of, reservations_in, numbered, of_found}
-use Rattle.pl_bounds.specs.Asked.{AskSame}
 use Rattle.pl_bounds.specs.Moved.{moved_to, demand_moved}
 use Rattle.pl_bounds.proofs.Moving.{end_moved, all_on}
 
@@ -39,6 +38,3 @@ asks_moved from to model a row none low = ap (λ (o : Option ℕ). of_found (ask
     by : (o : Option ℕ) → of_found (asks_until model (moved from to a) row) (option_map (moved_to from to) o) ≡ map (demand_moved from to) (of_found (asks_until model a row) o)
     by None = refl
     by (Some end) = all_on from to a.id a.start end row (numbered 0 (reservations_in (kind_of model a)))
-
-pub ask_same : (ds es : List Demand) → ds ≡ es → AskSame ds es
-ask_same ds es e line = (ap (uses_of line) e, ap (effects_of line) e)

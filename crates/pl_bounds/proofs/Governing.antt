@@ -1,12 +1,12 @@
 -- The last set up to a moment governs the state there, and goes on doing so while none behind it comes and it stays.
-use Rattle.std.proofs.Common.{◌≡◌, ℕ, ◌<◌, ◌≤◌, ltb, leb, Bool, true, false, ◌&&◌, cond, List, [], ◌∷◌, refl, sym, ap, ◌∙◌, subst, arith, inl, inr}
-use Rattle.std.specs.Prelude.{◌≢◌, ◌⊎◌}
-use Rattle.std.proofs.lemmas.Bool.{and_parts, leb-true, leb-false, le-leb}
+use Rattle.std.proofs.Common.{◌≡◌, ℕ, ◌<◌, ◌≤◌, eqb, ltb, leb, Bool, true, false, ◌&&◌, cond, List, [], ◌∷◌, refl, sym, ap, ◌∙◌, subst, arith, inl, inr}
+use Rattle.std.specs.Prelude.{◌||◌, ◌≢◌, ◌⊎◌}
+use Rattle.std.proofs.lemmas.Bool.{and_parts, leb-true, leb-false, le-leb, ltb-true, lt-ltb, or_left}
 use Rattle.pl_state.specs.declared.reservation.Setting.{Setting}
 use Rattle.pl_state.specs.Keys.{key_of, key_before, AreSorted, Has}
 use Rattle.pl_state.specs.Sorted.{NoneHas, AreDistinct}
 use Rattle.pl_state.specs.Sets.{set_key, state_from}
-use Rattle.pl_state.proofs.Keys.{follows, not_before, before_itself}
+use Rattle.pl_state.proofs.Keys.{behind_both, follows, before_itself, one_way}
 use Rattle.pl_state.proofs.Sorting.{has_none}
 
 -- whether a set counts up to a moment
@@ -118,42 +118,76 @@ counts_earlier base p t x le e =
     let upto : x.at ≤ t = let low : x.at ≤ p = leb-true x.at p parts.1 in omega (arith, low, le) in
     rw (parts.0, le-leb x.at t upto) refl
 
-key_at : (x z : Setting) → z.at < x.at → key_before (set_key x) (set_key z) ≡ false
-key_at x z lt = not_before (set_key x) (set_key z) (omega (arith, lt), λ s. absurd (omega (arith, lt, s)))
-
 -- ---- the state stays
 
--- each that is only among one of both leaves a state that differs from the one at the moment
+-- Another one of them stands behind the set, at the moment or before it.
+pub record HasBehind (t : ℕ) (xs : List Setting) (z : Setting) : Type 0 where
+  pub w : Setting
+  pub there : Has w xs
+  pub upto : w.at ≤ t
+  pub behind : key_before (set_key z) (set_key w) ≡ true
+
+at_most : (z w : Setting) → key_before (set_key z) (set_key w) ≡ true → z.at ≤ w.at
+at_most z w e = let back = follows (set_key w) (set_key z) (one_way (set_key z) (set_key w) e) in omega (arith, back.0)
+
+-- Each that is only among one of both leaves a state that differs from the one at the moment, or another one stands behind it.
 module _ (base t v : ℕ) (xs ys : List Setting) (sorted : AreSorted set_key xs) (distinct : AreDistinct set_key xs) (sorted' : AreSorted set_key ys) (distinct' : AreDistinct set_key ys)
     (Moves : Setting → Type 0) (goes : (x : Setting) → Has x xs → counts base t x ≡ true → Has x ys ⊎ Moves x) (comes : (x : Setting) → Has x ys → Has x xs ⊎ Moves x)
-    (others : (x : Setting) → Moves x → x.at ≤ t → state_from base x.at v xs ≢ state_from base t v xs) where
-  -- what counts where it moves stands before the one that governs
-  earlier : (x : Setting) → Governs base t x xs → state_from base t v xs ≡ x.state → (z : Setting) → Moves z → counts base t z ≡ true → z.at < x.at
-  earlier x g is z moves c = by (leb x.at z.at) refl
+    (others : (x : Setting) → Moves x → x.at ≤ t → (state_from base x.at v xs ≢ state_from base t v xs) ⊎ HasBehind t xs x) where
+  behind_counts : (z : Setting) → counts base t z ≡ true → (b : HasBehind t xs z) → counts base t b.w ≡ true
+  behind_counts z c b =
+      let after : base < z.at = ltb-true base z.at (and_parts (ltb base z.at) (leb z.at t) c).0 in
+      let le : z.at ≤ b.w.at = at_most z b.w b.behind in
+      rw (lt-ltb base b.w.at (omega (arith, after, le)), le-leb b.w.at t b.upto) refl
+
+  -- what counts where it moves does not stand behind the one that governs, and is not that one
+  earlier : (x : Setting) → Governs base t x xs → state_from base t v xs ≡ x.state → (z : Setting) → Moves z → counts base t z ≡ true → key_before (set_key z) (set_key x) ≡ true
+  earlier x g is z moves c = elim (others z moves upto) [ inl differs ↦ by differs (leb x.at z.at) refl | inr b ↦ ahead_of b (key_before (set_key z) (set_key x)) refl ]
     where
       upto : z.at ≤ t
       upto = leb-true z.at t (and_parts (ltb base z.at) (leb z.at t) c).1
 
-      by : (b : Bool) → leb x.at z.at ≡ b → z.at < x.at
-      by false e = leb-false x.at z.at e
-      by true e =
+      first : z.at < x.at → key_before (set_key z) (set_key x) ≡ true
+      first lt = or_left (ltb z.at x.at) (eqb z.at x.at && (ltb z.id x.id || (eqb z.id x.id && ltb z.index x.index))) (lt-ltb z.at x.at lt)
+
+      by : state_from base z.at v xs ≢ state_from base t v xs → (b : Bool) → leb x.at z.at ≡ b → key_before (set_key z) (set_key x) ≡ true
+      by differs false e = first (leb-false x.at z.at e)
+      by differs true e =
           let own : counts base z.at x ≡ true = rw ((and_parts (ltb base x.at) (leb x.at t) g.here).0, e) refl in
           let there : state_from base z.at v xs ≡ x.state = state_governed base z.at v xs sorted distinct x (record { there = g.there; here = own; last = λ w has f. g.last w has (counts_earlier base z.at t w upto f) }) in
-          absurd (others z moves upto (there ∙ sym is))
+          absurd (differs (there ∙ sym is))
 
-  pub state_same : state_from base t v ys ≡ state_from base t v xs
-  state_same = by (governed base t v xs sorted)
+      ahead_of : (b : HasBehind t xs z) → (k : Bool) → key_before (set_key z) (set_key x) ≡ k → key_before (set_key z) (set_key x) ≡ true
+      ahead_of b true e = e
+      ahead_of b false e =
+          let none : key_before (set_key z) (set_key b.w) ≡ false = behind_both (set_key z) (set_key x) (set_key b.w) e (g.last b.w b.there (behind_counts z c b)) in
+          absurd (let bad : true ≡ false = sym b.behind ∙ none in cc)
+
+  pub state_same_behind : state_from base t v ys ≡ state_from base t v xs
+  state_same_behind = by (governed base t v xs sorted)
     where
+      stands : (x : Setting) (h : IsGoverned base t v xs x) → Moves x → ⊥
+      stands x h moves = absurd (let bad : true ≡ false = sym (earlier x h.governs h.state x moves h.governs.here) ∙ before_itself (set_key x) in cc)
+
       by : Governed base t v xs → state_from base t v ys ≡ state_from base t v xs
       by (inl (x, h)) = state_governed base t v ys sorted' distinct' x (record {
-        there = elim (goes x h.governs.there h.governs.here) [ inl stays ↦ stays | inr moves ↦ absurd (let lt = earlier x h.governs h.state x moves h.governs.here in omega (arith, lt)) ];
+        there = elim (goes x h.governs.there h.governs.here) [ inl stays ↦ stays | inr moves ↦ absurd (stands x h moves) ];
         here = h.governs.here;
-        last = λ z has c. elim (comes z has) [ inl was ↦ h.governs.last z was c | inr moves ↦ key_at x z (earlier x h.governs h.state z moves c) ];
+        last = λ z has c. elim (comes z has) [ inl was ↦ h.governs.last z was c | inr moves ↦ one_way (set_key z) (set_key x) (earlier x h.governs h.state z moves c) ];
       }) ∙ sym h.state
       by (inr free) = state_free base t v ys sorted' distinct' (λ z has c. elim (comes z has) [
         | inl was ↦ free.none z was c
-        | inr moves ↦ (
-            let upto : z.at ≤ t = leb-true z.at t (and_parts (ltb base z.at) (leb z.at t) c).1 in
-            let still : state_from base z.at v xs ≡ v = state_free base z.at v xs sorted distinct (λ w was f. free.none w was (counts_earlier base z.at t w upto f)) in
-            others z moves upto (still ∙ sym free.state))
+        | inr moves ↦ elim (others z moves (leb-true z.at t (and_parts (ltb base z.at) (leb z.at t) c).1)) [
+          | inl differs ↦ (
+              let upto : z.at ≤ t = leb-true z.at t (and_parts (ltb base z.at) (leb z.at t) c).1 in
+              let still : state_from base z.at v xs ≡ v = state_free base z.at v xs sorted distinct (λ w was f. free.none w was (counts_earlier base z.at t w upto f)) in
+              differs (still ∙ sym free.state))
+          | inr b ↦ free.none b.w b.there (behind_counts z c b)
+        ]
       ]) ∙ sym free.state
+
+-- each that is only among one of both leaves a state that differs from the one at the moment
+pub state_same : (base t v : ℕ) (xs ys : List Setting) → AreSorted set_key xs → AreDistinct set_key xs → AreSorted set_key ys → AreDistinct set_key ys
+    → (Moves : Setting → Type 0) → ((x : Setting) → Has x xs → counts base t x ≡ true → Has x ys ⊎ Moves x) → ((x : Setting) → Has x ys → Has x xs ⊎ Moves x)
+    → ((x : Setting) → Moves x → x.at ≤ t → state_from base x.at v xs ≢ state_from base t v xs) → state_from base t v ys ≡ state_from base t v xs
+state_same base t v xs ys sorted distinct sorted' distinct' Moves goes comes others = state_same_behind base t v xs ys sorted distinct sorted' distinct' Moves goes comes (λ x moves le. inl (others x moves le))

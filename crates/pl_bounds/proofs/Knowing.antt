@@ -1,7 +1,8 @@
 -- What is known of a move, and of each that places the same at another start.
-use Rattle.std.proofs.Common.{◌≡◌, ◌≤◌, ◌+◌, ℕ, ℤ, [], ◌∷◌, Option, Some, None, sym, subst, arith}
+use Rattle.std.proofs.Common.{◌≡◌, ◌≤◌, ◌+◌, ℕ, ℤ, true, false, [], ◌∷◌, Option, Some, None, sym, subst, arith}
 use Rattle.std.specs.Prelude.{IfSome}
 use Rattle.pl_links.specs.declared.placed.Placed.{Placed}
+use Rattle.pl_moves.specs.Least.{least_known}
 use Rattle.pl_moves.specs.Runs.{CanBeMade, start_of}
 use Rattle.pl_plan.specs.declared.repair.RepairMove.{RepairMove}
 use Rattle.pl_plan.specs.declared.repair.RepairMove.TheVariants.{Add, Delete, Shift, Assign}
@@ -11,6 +12,7 @@ use Rattle.pl_semantics.specs.Moves.{applied}
 use Rattle.pl_semantics.specs.Whole.{IsWhole}
 use Rattle.pl_bounds.specs.Asked.{IsAlike}
 use Rattle.pl_bounds.specs.Askings.{IsAskingOf, root_alone}
+use Rattle.pl_bounds.specs.Bounds.{left_beside_states}
 use Rattle.pl_bounds.specs.Known.{IsKnownOf, only_steady}
 use Rattle.pl_bounds.specs.Orders.{unmet_then}
 use Rattle.pl_bounds.specs.Plain.{count_of_plain}
@@ -25,6 +27,8 @@ use Rattle.pl_bounds.proofs.Adding.{addition_asks}
 use Rattle.pl_bounds.proofs.Alike.{each_new, each_shift, each_deletion, each_assignment}
 use Rattle.pl_bounds.proofs.Assigned.{assign_left}
 use Rattle.pl_bounds.proofs.Placing.{new_lone}
+use Rattle.pl_bounds.proofs.Staying.{new_left}
+use Rattle.pl_bounds.proofs.Summing.{leaves_both}
 use Rattle.pl_bounds.proofs.Together.{few_with_new}
 
 module _ (s : PlanState) where
@@ -64,3 +68,10 @@ module _ (s : PlanState) where
   valueless_left whole next o of id param value =
       each_assignment s (λ m. o.valueless ≤ count_of_plain (applied s m)) id param value
       (λ can. let left = assign_left s whole next id param value can in let most = of.valueless in omega (arith, most, left))
+
+  -- what is known of a move without a look at the conflicts is no conflict of states
+  pub known_beside : IsWhole s → s.next_id ≤ 3999999000 → (m : RepairMove) → CanBeMade s m → least_known s m ≤ left_beside_states s m
+  known_beside whole next (Add kind start goal) can =
+      let left : IsLeftByNew s kind goal (least_known s (Add kind start goal)) = new_left s whole next kind start goal 0 (omega arith) false (λ e. absurd (let bad : false ≡ true = e in cc)) (least_known s (Add kind start goal)) (omega arith) in
+      omega (arith, left start can, leaves_both s (Add kind start goal))
+  known_beside whole next _ can = omega arith

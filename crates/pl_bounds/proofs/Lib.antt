@@ -64,3 +64,4 @@ pub mod Unlinked
 pub mod Exchanged
 pub mod Remainders
 pub mod Breached
+pub mod StillUnmet

@@ -9,7 +9,7 @@ use Rattle.pl_capacity.specs.Uses.{taken_at}
 use Rattle.pl_level.specs.Effects.{counted}
 use Rattle.pl_plan.specs.declared.activity.Activity.{Activity}
 use Rattle.pl_semantics.specs.declared.plan_state.PlanState.{PlanState}
-use Rattle.pl_semantics.specs.Demands.{since, effects_of}
+use Rattle.pl_semantics.specs.Demands.{since, uses_of, effects_of}
 use Rattle.pl_semantics.specs.Timelines.{spans_ahead}
 use Rattle.pl_semantics.specs.Whole.{IsWhole}
 use Rattle.pl_update.specs.Changes.Replaced.{with_plan, CanReplace}
@@ -32,22 +32,22 @@ same_spans P Q same (suc n) a = rw (same a, same_spans P Q same n (suc a)) refl
 module _ (s : PlanState) (gone : List ℕ) (more : List Activity) (whole : IsWhole s) (can : CanReplace s gone more) (once : AreOnce gone) (a : Asking) (start : ℕ) (asked : IsAskedBy s gone more a start) where
   over_after : (base line t : ℕ) → ((value_at s Over line t -ℤ total (on Over base line t) a.going.items) +ℤ total (on Over base line t) (coming_at a start)) ≡ value_at (with_plan gone more s) Over line t
   over_after base line t =
-      let going : total (on Over base line t) a.going.items ≡ taken_by line t (gone_from s gone) = over_all base line t a.going.items ∙ ap (total (taken_at t)) (asked.going line).0 in
-      let coming : total (on Over base line t) (coming_at a start) ≡ taken_by line t (coming_to (with_plan gone more s) more) = over_all base line t (coming_at a start) ∙ ap (total (taken_at t)) (asked.coming line).0 in
+      let going : total (on Over base line t) a.going.items ≡ taken_by line t (gone_from s gone) = over_all base line t a.going.items ∙ ap (total (taken_at t)) (ap (uses_of line) asked.going) in
+      let coming : total (on Over base line t) (coming_at a start) ≡ taken_by line t (coming_to (with_plan gone more s) more) = over_all base line t (coming_at a start) ∙ ap (total (taken_at t)) (ap (uses_of line) asked.coming) in
       let after = use_after s gone more whole can once line t in
       omega (arith, ints, going, coming, after)
 
   low_after : (base line t : ℕ) → base ≡ since s line → ((value_at s Low line t -ℤ total (on Low base line t) a.going.items) +ℤ total (on Low base line t) (coming_at a start)) ≡ value_at (with_plan gone more s) Low line t
   low_after base line t is =
-      let going : total (on Low base line t) a.going.items ≡ pulled_by s line t (gone_from s gone) = low_all base line t a.going.items ∙ (ap (total (counted base t)) (asked.going line).1 ∙ ap (λ (b : ℕ). total (counted b t) (effects_of line (gone_from s gone))) is) in
-      let coming : total (on Low base line t) (coming_at a start) ≡ pulled_by s line t (coming_to (with_plan gone more s) more) = low_all base line t (coming_at a start) ∙ (ap (total (counted base t)) (asked.coming line).1 ∙ ap (λ (b : ℕ). total (counted b t) (effects_of line (coming_to (with_plan gone more s) more))) is) in
+      let going : total (on Low base line t) a.going.items ≡ pulled_by s line t (gone_from s gone) = low_all base line t a.going.items ∙ (ap (total (counted base t)) (ap (effects_of line) asked.going) ∙ ap (λ (b : ℕ). total (counted b t) (effects_of line (gone_from s gone))) is) in
+      let coming : total (on Low base line t) (coming_at a start) ≡ pulled_by s line t (coming_to (with_plan gone more s) more) = low_all base line t (coming_at a start) ∙ (ap (total (counted base t)) (ap (effects_of line) asked.coming) ∙ ap (λ (b : ℕ). total (counted b t) (effects_of line (coming_to (with_plan gone more s) more))) is) in
       let after = level_after s gone more whole can once line t in
       omega (arith, ints, going, coming, after)
 
   high_after : (base line t : ℕ) → base ≡ since s line → ((value_at s High line t -ℤ total (on High base line t) a.going.items) +ℤ total (on High base line t) (coming_at a start)) ≡ value_at (with_plan gone more s) High line t
   high_after base line t is =
-      let going : total (on High base line t) a.going.items ≡ pulled_by s line t (gone_from s gone) = high_all base line t a.going.items ∙ (ap (total (counted base t)) (asked.going line).1 ∙ ap (λ (b : ℕ). total (counted b t) (effects_of line (gone_from s gone))) is) in
-      let coming : total (on High base line t) (coming_at a start) ≡ pulled_by s line t (coming_to (with_plan gone more s) more) = high_all base line t (coming_at a start) ∙ (ap (total (counted base t)) (asked.coming line).1 ∙ ap (λ (b : ℕ). total (counted b t) (effects_of line (coming_to (with_plan gone more s) more))) is) in
+      let going : total (on High base line t) a.going.items ≡ pulled_by s line t (gone_from s gone) = high_all base line t a.going.items ∙ (ap (total (counted base t)) (ap (effects_of line) asked.going) ∙ ap (λ (b : ℕ). total (counted b t) (effects_of line (gone_from s gone))) is) in
+      let coming : total (on High base line t) (coming_at a start) ≡ pulled_by s line t (coming_to (with_plan gone more s) more) = high_all base line t (coming_at a start) ∙ (ap (total (counted base t)) (ap (effects_of line) asked.coming) ∙ ap (λ (b : ℕ). total (counted b t) (effects_of line (coming_to (with_plan gone more s) more))) is) in
       let after = level_after s gone more whole can once line t in
       omega (arith, ints, going, coming, after)
 

@@ -36,7 +36,6 @@ use Rattle.pl_update.proofs.AboutEvaluations.Still.{values_still}
 use Rattle.pl_bounds.specs.Moved.{demand_moved}
 use Rattle.pl_bounds.specs.declared.asking.Asking.{Asking}
 use Rattle.pl_bounds.proofs.Alike.{alike_delete, alike_shift}
-use Rattle.pl_bounds.proofs.Asks.{ask_same}
 use Rattle.pl_bounds.proofs.Moving.{demands_moved}
 
 -- ---- a deletion
@@ -46,8 +45,8 @@ deletion_asks s id a going coming m can alike = subst (λ (w : RepairMove). IsAs
   where
     asked : IsAskedBy s (subtree_of id s.plan.activities) [] a 0
     asked = record {
-      going = ask_same a.going.items (gone_from s (subtree_of id s.plan.activities)) going;
-      coming = ask_same (map (demand_moved a.start 0) a.coming.items) [] (ap (map (demand_moved a.start 0)) coming);
+      going = going;
+      coming = ap (map (demand_moved a.start 0)) coming;
     }
 
 -- ---- lists
@@ -173,8 +172,8 @@ module _ (s : PlanState) (whole : IsWhole s) (next : s.next_id ≤ 3999999000) (
 
   pub shift_to_asks : (a : Asking) → a.going.items ≡ gone_from s gone → a.coming.items ≡ gone_from s gone → a.start ≡ top.start → IsAskedBy s gone more a to
   shift_to_asks a going coming start = record {
-    going = ask_same a.going.items (gone_from s gone) going;
-    coming = ask_same (map (demand_moved a.start to) a.coming.items) (coming_to then_ more) (ap (map (demand_moved a.start to)) coming ∙ (ap (λ (n : ℕ). map (demand_moved n to) (gone_from s gone)) start ∙ coming_moved));
+    going = going;
+    coming = ap (map (demand_moved a.start to)) coming ∙ (ap (λ (n : ℕ). map (demand_moved n to) (gone_from s gone)) start ∙ coming_moved);
   }
 
 pub shift_asks : (s : PlanState) → IsWhole s → s.next_id ≤ 3999999000 → (id start : ℕ) → IsLive id s.plan.activities → (a : Asking) → a.going.items ≡ gone_from s (subtree_of id s.plan.activities) → a.coming.items ≡ gone_from s (subtree_of id s.plan.activities) → IfSome (found s id) (λ (top : Activity). a.start ≡ top.start) → IsAskingOf s (Shift id start) a

@@ -1,6 +1,6 @@
 -- Of a replacement: which sets and musts stay, and where the state stays.
-use Rattle.std.proofs.Common.{◌≡◌, ℕ, List, arith, inl, inr, ℤ, ◌+ℤ◌, []}
-use Rattle.std.specs.Prelude.{◌⊎◌}
+use Rattle.std.proofs.Common.{◌≡◌, ◌≤◌, ℕ, List, arith, inl, inr, ℤ, ◌+ℤ◌, []}
+use Rattle.std.specs.Prelude.{◌⊎◌, ◌≢◌}
 use Rattle.std.proofs.lemmas.Int.{ints}
 use Rattle.pl_points.specs.Sums.{total}
 use Rattle.pl_plan.specs.declared.activity.Activity.{Activity}
@@ -26,7 +26,7 @@ use Rattle.pl_update.proofs.AboutTimelines.StandingApart.{distinct_counted, once
 use Rattle.pl_update.proofs.AboutTimelines.StandingEqual.{set_exact, set_itself, must_itself}
 use Rattle.pl_update.proofs.AboutTimelines.Replacing.{staying, asked_before, asked_after, whole_after}
 use Rattle.pl_bounds.specs.Settings.{sets_asked, musts_asked, HangsOnNone}
-use Rattle.pl_bounds.proofs.Governing.{state_same}
+use Rattle.pl_bounds.proofs.Governing.{HasBehind, state_same, state_same_behind}
 use Rattle.pl_bounds.proofs.Having.{like, counted, there, one_of_both, of_left, of_right}
 
 -- ---- put in order they are the same
@@ -136,3 +136,11 @@ module _ (s : PlanState) (gone : List ℕ) (more : List Activity) (whole : IsWho
       state_same (since s line) p (natural (told s line)) (sets_of line (demands_of s)) (sets_of line (demands_of t))
       (sets_sorted line (demands_of s)) (distinct_sets s whole.rising line) (sets_sorted line (demands_of t)) (distinct_sets t (whole_after s gone more whole can).rising line)
       Moves (λ x has _. set_goes x has) set_comes (λ x moves le. elim moves [ inl g ↦ goes x g le | inr c ↦ comes x c le ])
+
+  -- so does one of which each set that goes or comes leaves another one at its moment, or has another set behind it
+  pub state_stays_behind : (p : ℕ) → ((x : Setting) → Moves x → x.at ≤ p → (state_at s line x.at ≢ state_at s line p) ⊎ HasBehind p (sets_of line (demands_of s)) x) → state_at t line p ≡ state_at s line p
+  unfolding state_at
+  state_stays_behind p others =
+      state_same_behind (since s line) p (natural (told s line)) (sets_of line (demands_of s)) (sets_of line (demands_of t))
+      (sets_sorted line (demands_of s)) (distinct_sets s whole.rising line) (sets_sorted line (demands_of t)) (distinct_sets t (whole_after s gone more whole can).rising line)
+      Moves (λ x has _. set_goes x has) set_comes others

@@ -23,6 +23,7 @@ use Rattle.pl_moves.proofs.Made.{made, can_replace}
 use Rattle.pl_bounds.specs.declared.outside.Outside.{Outside}
 use Rattle.pl_bounds.specs.Plain.{count_of_plain}
 use Rattle.pl_bounds.specs.Ties.{count_of_links}
+use Rattle.pl_bounds.specs.Bounds.{left_beside_states}
 use Rattle.pl_bounds.specs.Marks.{count_of_states}
 use Rattle.pl_bounds.specs.Sides.{HasLimit, AreDifferent, times_past}
 use Rattle.pl_bounds.proofs.Parts.{three_parts, parts}
@@ -62,10 +63,15 @@ module _ (s : PlanState) (m : RepairMove) (whole : IsWhole s) (next : s.next_id 
       let all = parts (with_plan (gone_by s m) (placed_by s m) s) os (whole_replaced s (gone_by s m) (placed_by s m) whole can_place) different limits in
       subst (λ (t : PlanState). count_of_plain t + count_of_links t + (k + n) ≤ length (conflicts_of t)) placed_is (omega (arith, all, some, few))
 
+  -- beside what is wrong with states
   pub leaves : (os : List Outside) → AreDifferent os → All (HasLimit s) os → (n : ℕ) → n ≤ times_past (with_plan (gone_by s m) (placed_by s m) s) os
-      → count_of_plain (applied s m) + count_of_links (applied s m) + n ≤ left_after s m
-  leaves os different limits n few = let all = leaves_all os different limits 0 n (omega arith) few in omega (arith, all)
+      → count_of_plain (applied s m) + count_of_links (applied s m) + n ≤ left_beside_states s m
+  unfolding left_beside_states
+  leaves os different limits n few =
+      let states : count_of_states (applied s m) ≤ count_of_states (with_plan (gone_by s m) (placed_by s m) s) = subst (λ (t : PlanState). count_of_states t ≤ count_of_states (with_plan (gone_by s m) (placed_by s m) s)) placed_is (omega arith) in
+      let all = leaves_all os different limits (count_of_states (applied s m)) n states few in
+      omega (arith, all)
 
-pub leaves_both : (s : PlanState) (m : RepairMove) → count_of_plain (applied s m) + count_of_links (applied s m) + 0 ≤ left_after s m
-unfolding left_after
+pub leaves_both : (s : PlanState) (m : RepairMove) → count_of_plain (applied s m) + count_of_links (applied s m) + 0 ≤ left_beside_states s m
+unfolding left_after left_beside_states
 leaves_both s m = omega (arith, three_parts (applied s m))

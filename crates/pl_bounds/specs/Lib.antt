@@ -39,3 +39,4 @@ pub mod Settings
 pub mod Exchanges
 pub mod Marks
 pub mod Seen
+pub mod UnmetMusts

@@ -53,10 +53,18 @@ pub record IsNewLast (s : PlanState) (a : Asking) (line : ℕ) (x : Setting) : T
   pub horizon : x.at < s.model.horizon
   pub last : EachSet line (IsNotBehind x) a.coming.items
 
--- ---- once what is asked for has been exchanged
+-- ---- once these demands went and those came
+
+abbrev pub StandsAfter : PlanState → List Demand → List Demand → Mark → Type 0
+StandsAfter s going coming k = (gone : List ℕ) (more : List Activity) → IsExchange s gone more going coming → Stands (with_plan gone more s) k
+
+abbrev pub AreMarksAfter : PlanState → List Demand → List Demand → List Mark → Type 0
+AreMarksAfter s going coming ks = (gone : List ℕ) (more : List Activity) → IsExchange s gone more going coming → AreMarks (with_plan gone more s) ks
+
+-- once what is asked for has been exchanged
 
 abbrev pub StandsThen : PlanState → Asking → Mark → Type 0
-StandsThen s a k = (gone : List ℕ) (more : List Activity) → IsExchange s gone more a.going.items a.coming.items → Stands (with_plan gone more s) k
+StandsThen s a k = StandsAfter s a.going.items a.coming.items k
 
 abbrev pub AreMarksThen : PlanState → Asking → List Mark → Type 0
-AreMarksThen s a ks = (gone : List ℕ) (more : List Activity) → IsExchange s gone more a.going.items a.coming.items → AreMarks (with_plan gone more s) ks
+AreMarksThen s a ks = AreMarksAfter s a.going.items a.coming.items ks

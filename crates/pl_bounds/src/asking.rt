@@ -58,8 +58,8 @@ pub(crate) fn asked_by(alloc: Global, board: &Board, ids: &[u32]) -> Result<Vec<
     Ok(all)
 }
 
-// What a deletion asks for, given the ids of the subtree that goes.
-fn deleted(alloc: Global, board: &Board, subtree: &[u32]) -> Result<Asking, AllocError>
+/// What a deletion asks for, given the ids of the subtree that goes.
+pub(crate) fn deleted(alloc: Global, board: &Board, subtree: &[u32]) -> Result<Asking, AllocError>
     requires { board.now.spoiled ≡ false }
     ensures { IfOk result (λ a. (id : ℕ) → subtree.now ≡ subtree_of id board.now.state.plan.activities → IsAskingOf board.now.state (Delete id) a) }
 {
@@ -99,8 +99,13 @@ fn start_at(s: &PlanState, id: u32) -> u32
     }
 }
 
-// What a shift to any start asks for, given the ids of the subtree that moves.
-fn shifted(alloc: Global, board: &Board, id: u32, subtree: &[u32]) -> Result<Asking, AllocError>
+/// What a shift to any start asks for, given the ids of the subtree that moves.
+pub(crate) fn shifted(
+    alloc: Global,
+    board: &Board,
+    id: u32,
+    subtree: &[u32],
+) -> Result<Asking, AllocError>
     requires unspoiled { board.now.spoiled ≡ false }
     requires next { board.now.state.next_id ≤ 3999999000 }
     requires live { IsLive id board.now.state.plan.activities }

@@ -1,12 +1,11 @@
 //! For each of some moves a number of conflicts that it leaves at least.
 ghost use Rattle.std.specs.Prelude.{◌≡◌, ◌≤◌, ◌+◌, false, All, IfOk, OnOk};
 ghost use Rattle.pl_semantics.specs.Moves.{applied};
-ghost use Rattle.pl_semantics.specs.Legal.{left_after};
 ghost use Rattle.pl_semantics.specs.declared.plan_state.PlanState.{PlanState};
 ghost use Rattle.pl_moves.specs.Changes.{IsOfActivities};
 ghost use Rattle.pl_moves.specs.Runs.{CanBeMade};
 ghost use Rattle.pl_bounds.specs.Asked.{IsAlike};
-ghost use Rattle.pl_bounds.specs.Bounds.{AreLeast};
+ghost use Rattle.pl_bounds.specs.Bounds.{AreLeast, AreLeastBesideStates, left_beside_states};
 ghost use Rattle.pl_bounds.specs.Known.{IsRunOf};
 ghost use Rattle.pl_bounds.specs.Plain.{count_of_plain};
 ghost use Rattle.pl_bounds.specs.Sides.{IsOutsideOf, AreDifferent};
@@ -38,7 +37,7 @@ fn past_by(board: &Board, outsides: &[Outside], run: &Run, mv: &RepairMove) -> u
     requires different { AreDifferent outsides.now }
     requires run { IsRunOf board.now.state run.now }
     requires alike { IsAlike run.now.known.first mv.now }
-    ensures { count_of_plain (applied board.now.state mv.now) + count_of_links (applied board.now.state mv.now) + result ≤ left_after board.now.state mv.now }
+    ensures { count_of_plain (applied board.now.state mv.now) + count_of_links (applied board.now.state mv.now) + result ≤ left_beside_states board.now.state mv.now }
 {
     let _state = board.state();
     match &run.known.asking {
@@ -53,7 +52,7 @@ fn past_by(board: &Board, outsides: &[Outside], run: &Run, mv: &RepairMove) -> u
     }
 }
 
-// How many conflicts the move leaves at least beside those of goals, of activities and of links.
+// How many conflicts the move leaves at least beside those of goals, of activities, of links and of states.
 fn others_by(board: &Board, outsides: &[Outside], run: &Run, mv: &RepairMove) -> u32
     requires unspoiled { board.now.spoiled ≡ false }
     requires next { board.now.state.next_id ≤ 3999999000 }
@@ -62,7 +61,7 @@ fn others_by(board: &Board, outsides: &[Outside], run: &Run, mv: &RepairMove) ->
     requires different { AreDifferent outsides.now }
     requires run { IsRunOf board.now.state run.now }
     requires alike { IsAlike run.now.known.first mv.now }
-    ensures { count_of_plain (applied board.now.state mv.now) + count_of_links (applied board.now.state mv.now) + result ≤ left_after board.now.state mv.now }
+    ensures { count_of_plain (applied board.now.state mv.now) + count_of_links (applied board.now.state mv.now) + result ≤ left_beside_states board.now.state mv.now }
 {
     match *mv {
         RepairMove::Drop { .. } => 0,
@@ -70,6 +69,7 @@ fn others_by(board: &Board, outsides: &[Outside], run: &Run, mv: &RepairMove) ->
     }
 }
 
+// How many conflicts the move leaves at least beside those of states.
 fn least_by(board: &Board, outsides: &[Outside], run: &Run, mv: &RepairMove) -> u32
     requires unspoiled { board.now.spoiled ≡ false }
     requires next { board.now.state.next_id ≤ 3999999000 }
@@ -78,7 +78,7 @@ fn least_by(board: &Board, outsides: &[Outside], run: &Run, mv: &RepairMove) -> 
     requires different { AreDifferent outsides.now }
     requires run { IsRunOf board.now.state run.now }
     requires alike { IsAlike run.now.known.first mv.now }
-    ensures { result ≤ left_after board.now.state mv.now }
+    ensures { result ≤ left_beside_states board.now.state mv.now }
 {
     let others = others_by(board, outsides, run, mv);
     let start = start_of(mv);
@@ -90,8 +90,7 @@ fn least_by(board: &Board, outsides: &[Outside], run: &Run, mv: &RepairMove) -> 
         .untouched
         .saturating_add(lone)
         .saturating_add(unmet);
-    let least = steady.saturating_add(links).saturating_add(others);
-    least.max(least_left(board.state(), mv))
+    steady.saturating_add(links).saturating_add(others)
 }
 
 // Whether a look over all conflicts costs less than it may save.
@@ -102,8 +101,9 @@ fn is_worth_it(conflicts: &ConflictSet, moves: &[RepairMove]) -> bool {
 // What is known of each move without a look over the conflicts.
 fn least_alone(alloc: Global, board: &Board, moves: &[RepairMove]) -> Result<Vec<u32>, AllocError>
     requires unspoiled { board.now.spoiled ≡ false }
+    requires next { board.now.state.next_id ≤ 3999999000 }
     requires allowed { All (CanBeMade board.now.state) moves.now }
-    ensures { IfOk result (λ ns. AreLeast board.now.state moves.now ns.items) }
+    ensures { IfOk result (λ ns. AreLeastBesideStates board.now.state moves.now ns.items) }
 {
     let mut bounds = Vec::with_capacity(alloc, moves.len())?;
     'moves: for mv in moves {
@@ -112,7 +112,7 @@ fn least_alone(alloc: Global, board: &Board, moves: &[RepairMove]) -> Result<Vec
     Ok(bounds)
 }
 
-// A number of conflicts that a move leaves at least. If no move before it places the same activities, what is known of it is put behind the
+// A number of conflicts that a move leaves at least beside those of states. If no move before it places the same activities, what is known of it is put behind the
 // others.
 fn bound_of(
     alloc: Global,
@@ -129,7 +129,7 @@ fn bound_of(
     requires different { AreDifferent past.old.items }
     requires allowed { CanBeMade board.now.state mv.now }
     requires runs { All (IsRunOf board.now.state) runs.old.items }
-    ensures least { IfOk result (λ n. n ≤ left_after board.now.state mv.now) }
+    ensures least { IfOk result (λ n. n ≤ left_beside_states board.now.state mv.now) }
     ensures of_plan { OnOk result (All (IsOutsideOf board.now.state) past.new.items) }
     ensures different { OnOk result (AreDifferent past.new.items) }
     ensures runs { OnOk result (All (IsRunOf board.now.state) runs.new.items) }
@@ -151,7 +151,7 @@ fn bounds_of_each(
     requires unspoiled { board.now.spoiled ≡ false }
     requires next { board.now.state.next_id ≤ 3999999000 }
     requires allowed { All (CanBeMade board.now.state) moves.now }
-    ensures { IfOk result (λ ns. AreLeast board.now.state moves.now ns.items) }
+    ensures { IfOk result (λ ns. AreLeastBesideStates board.now.state moves.now ns.items) }
 {
     let standing = standing_of(alloc, board)?;
     let mut past = outsides(alloc, board)?;
@@ -164,9 +164,27 @@ fn bounds_of_each(
     Ok(bounds)
 }
 
-/// For each of these moves a number of conflicts that it leaves at least, known without making it. No clause says how near these come: 0
-/// for each would be right too, and slower to choose by. If the conflicts are very many for so few moves, none of them is looked at. An
-/// error is want of memory.
+// For each move a number of conflicts that it leaves at least beside those of states.
+fn least_beside_states(
+    alloc: Global,
+    board: &Board,
+    moves: &[RepairMove],
+) -> Result<Vec<u32>, AllocError>
+    requires unspoiled { board.now.spoiled ≡ false }
+    requires next { board.now.state.next_id ≤ 3999999000 }
+    requires allowed { All (CanBeMade board.now.state) moves.now }
+    ensures { IfOk result (λ ns. AreLeastBesideStates board.now.state moves.now ns.items) }
+{
+    if is_worth_it(board.conflicts(), moves) {
+        Ok(bounds_of_each(alloc, board, moves)?)
+    } else {
+        Ok(least_alone(alloc, board, moves)?)
+    }
+}
+
+/// For each of these moves a number of conflicts that it leaves at least, known without making it. Conflicts of states are not among those
+/// that were counted: `least_with_states` adds some of them. No clause says how near these come: 0 for each would be right too, and slower
+/// to choose by. If the conflicts are very many for so few moves, none of them is looked at. An error is want of memory.
 pub fn least_of_each(
     alloc: Global,
     board: &Board,
@@ -175,11 +193,9 @@ pub fn least_of_each(
     requires unspoiled { board.now.spoiled ≡ false }
     requires next { board.now.state.next_id ≤ 3999999000 }
     requires allowed { All (CanBeMade board.now.state) moves.now }
-    ensures { IfOk result (λ ns. AreLeast board.now.state moves.now ns.items) }
+    ensures least { IfOk result (λ ns. AreLeast board.now.state moves.now ns.items) }
+    ensures beside { IfOk result (λ ns. AreLeastBesideStates board.now.state moves.now ns.items) }
 {
-    if is_worth_it(board.conflicts(), moves) {
-        Ok(bounds_of_each(alloc, board, moves)?)
-    } else {
-        Ok(least_alone(alloc, board, moves)?)
-    }
+    let bounds = least_beside_states(alloc, board, moves)?;
+    Ok(bounds)
 }

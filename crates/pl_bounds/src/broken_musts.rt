@@ -26,8 +26,8 @@ fn is_of_other(demand: &Demand, must: &Must) -> bool
     }
 }
 
-// Whether none of the demands is this must.
-fn are_of_others(demands: &[Demand], must: &Must) -> bool
+/// Whether none of the demands is this must.
+pub(crate) fn are_of_others(demands: &[Demand], must: &Must) -> bool
     ensures { IsTrue result → (line : ℕ) → Has must.now (musts_asked line demands.now) → ⊥ }
 {
     for demand in demands {

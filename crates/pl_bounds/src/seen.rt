@@ -50,8 +50,8 @@ pub(crate) fn seen_at(board: &Board, line: u32, at: u32) -> Option<Seen>
     Some(Seen { line, at, state })
 }
 
-// Whether a moment is later than the one that was seen, or the timeline has another state there. Of the past nothing is known.
-fn differs_at(board: &Board, seen: &Seen, at: u32) -> bool
+/// Whether a moment is later than the one that was seen, or the timeline has another state there. Of the past nothing is known.
+pub(crate) fn differs_at(board: &Board, seen: &Seen, at: u32) -> bool
     requires unspoiled { board.now.spoiled ≡ false }
     requires seen { IsSeen board.now.state seen.now }
     ensures { IsTrue result → at ≤ seen.now.at → state_at board.now.state seen.now.line at ≢ state_at board.now.state seen.now.line seen.now.at }
@@ -91,8 +91,8 @@ pub(crate) fn hangs_on_none(board: &Board, demands: &[Demand], seen: &Seen) -> b
     true
 }
 
-// Whether the one stands before the other.
-fn is_before(one: &Setting, other: &Setting) -> bool
+/// Whether the one stands before the other.
+pub(crate) fn is_before(one: &Setting, other: &Setting) -> bool
     ensures { result ≡ key_before (set_key one.now) (set_key other.now) }
 {
     one.at < other.at

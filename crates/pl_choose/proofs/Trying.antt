@@ -9,7 +9,8 @@ use Rattle.std.proofs.lemmas.List.Elements.{All-nil, All-cons, All-head, All-tai
 use Rattle.pl_plan.specs.declared.repair.RepairMove.{RepairMove}
 use Rattle.pl_semantics.specs.declared.plan_state.PlanState.{PlanState}
 use Rattle.pl_semantics.specs.Legal.{left_after}
-use Rattle.pl_bounds.specs.Bounds.{AreLeast}
+use Rattle.pl_bounds.specs.Bounds.{AreLeast, AreNoMore}
+use Rattle.pl_bounds.proofs.Pushing.{no_more_length}
 use Rattle.pl_choose.specs.declared.best.Best.{Best}
 use Rattle.pl_choose.specs.Found.{IsAllowed, lowest}
 use Rattle.pl_choose.specs.Picks.{fewest}
@@ -61,13 +62,13 @@ passed_over s most b (m ∷ ms) (n ∷ ns) le least = by (nat_lt n most) refl (�
         let up : n ≤ left_after s m = least.0 in
         again b le ∙ ap (λ c. best_of (left_after s) c ms) (sym (worse b m (left_after s m) (omega (arith, high, up, le))))
 
-pub least_below : (s : PlanState) (most : ℕ) (ms : List RepairMove) (ns : List ℕ) → AreLeast s ms ns → AreLeast s (below most ns ms) (below most ns ns)
-least_below s most [] [] least = tt
-least_below s most [] (n ∷ ns) none = absurd none
-least_below s most (m ∷ ms) [] none = absurd none
-least_below s most (m ∷ ms) (n ∷ ns) least = by (nat_lt n most) (least_below s most ms ns least.1)
+pub least_below : (f : RepairMove → ℕ) (most : ℕ) (ms : List RepairMove) (ns : List ℕ) → AreNoMore f ms ns → AreNoMore f (below most ns ms) (below most ns ns)
+least_below f most [] [] least = tt
+least_below f most [] (n ∷ ns) none = absurd none
+least_below f most (m ∷ ms) [] none = absurd none
+least_below f most (m ∷ ms) (n ∷ ns) least = by (nat_lt n most) (least_below f most ms ns least.1)
   where
-    by : (c : Bool) → AreLeast s (below most ns ms) (below most ns ns) → AreLeast s (cond c (m ∷ below most ns ms) (below most ns ms)) (cond c (n ∷ below most ns ns) (below most ns ns))
+    by : (c : Bool) → AreNoMore f (below most ns ms) (below most ns ns) → AreNoMore f (cond c (m ∷ below most ns ms) (below most ns ms)) (cond c (n ∷ below most ns ns) (below most ns ns))
     by true rest = (least.0, rest)
     by false rest = rest
 
@@ -93,33 +94,27 @@ few_below {X = X} most (n ∷ ns) (x ∷ xs) = by (nat_lt n most) (few_below mos
 
 -- ---- numbers of some of them
 
-pub least_length : (s : PlanState) (ms : List RepairMove) (ns : List ℕ) → AreLeast s ms ns → length ns ≡ length ms
-least_length s [] [] least = refl
-least_length s [] (n ∷ ns) none = absurd none
-least_length s (m ∷ ms) [] none = absurd none
-least_length s (m ∷ ms) (n ∷ ns) least = ap suc (least_length s ms ns least.1)
+pub least_drop : (f : RepairMove → ℕ) (k : ℕ) (ms : List RepairMove) (ns : List ℕ) → AreNoMore f ms ns → AreNoMore f (drop k ms) (drop k ns)
+least_drop f zero ms ns least = least
+least_drop f (suc k) [] [] least = tt
+least_drop f (suc k) [] (n ∷ ns) none = absurd none
+least_drop f (suc k) (m ∷ ms) [] none = absurd none
+least_drop f (suc k) (m ∷ ms) (n ∷ ns) least = least_drop f k ms ns least.1
 
-pub least_drop : (s : PlanState) (k : ℕ) (ms : List RepairMove) (ns : List ℕ) → AreLeast s ms ns → AreLeast s (drop k ms) (drop k ns)
-least_drop s zero ms ns least = least
-least_drop s (suc k) [] [] least = tt
-least_drop s (suc k) [] (n ∷ ns) none = absurd none
-least_drop s (suc k) (m ∷ ms) [] none = absurd none
-least_drop s (suc k) (m ∷ ms) (n ∷ ns) least = least_drop s k ms ns least.1
-
-pub least_take : (s : PlanState) (k : ℕ) (ms : List RepairMove) (ns : List ℕ) → AreLeast s ms ns → AreLeast s (take k ms) (take k ns)
-least_take s zero ms ns least = tt
-least_take s (suc k) [] [] least = tt
-least_take s (suc k) [] (n ∷ ns) none = absurd none
-least_take s (suc k) (m ∷ ms) [] none = absurd none
-least_take s (suc k) (m ∷ ms) (n ∷ ns) least = (least.0, least_take s k ms ns least.1)
+pub least_take : (f : RepairMove → ℕ) (k : ℕ) (ms : List RepairMove) (ns : List ℕ) → AreNoMore f ms ns → AreNoMore f (take k ms) (take k ns)
+least_take f zero ms ns least = tt
+least_take f (suc k) [] [] least = tt
+least_take f (suc k) [] (n ∷ ns) none = absurd none
+least_take f (suc k) (m ∷ ms) [] none = absurd none
+least_take f (suc k) (m ∷ ms) (n ∷ ns) least = (least.0, least_take f k ms ns least.1)
 
 pub hopes : (s : PlanState) (b : Best) (ms : List RepairMove) (ns : List ℕ) → All (IsAllowed s) ms → AreLeast s ms ns → AreHopes s b ms (below b.left ns ms) (below b.left ns ns)
 hopes s b ms ns allowed least =
-    let kept : AreLeast s (below b.left ns ms) (below b.left ns ns) = least_below s b.left ms ns least in
+    let kept : AreLeast s (below b.left ns ms) (below b.left ns ns) = least_below (left_after s) b.left ms ns least in
     record {
       allowed = all_below (IsAllowed s) b.left ms ns allowed;
       least = kept;
-      count = least_length s (below b.left ns ms) (below b.left ns ns) kept;
+      count = no_more_length (left_after s) (below b.left ns ms) (below b.left ns ns) kept;
       few = few_below b.left ns ms;
       best_is = passed_over s b.left b ms ns (omega arith) least;
     }

@@ -2,7 +2,7 @@
 //! counted how many conflicts it leaves, no move is tried whose bound is higher than this.
 ghost use Rattle.std.specs.Prelude.{◌≡◌, ◌≤◌, ◌<◌, ◌+◌, ◌^◌, true, false, All, IfOk, IfSome, OnErr, take, drop, length};
 ghost use Rattle.pl_semantics.specs.Legal.{left_after};
-ghost use Rattle.pl_bounds.specs.Bounds.{AreLeast};
+ghost use Rattle.pl_bounds.specs.Bounds.{AreLeastBesideStates};
 ghost use Rattle.pl_choose.specs.Aimed.{IsAimed};
 ghost use Rattle.pl_choose.specs.Found.{IsAllowed};
 ghost use Rattle.pl_choose.specs.Tried.{above, best_of};
@@ -10,10 +10,11 @@ ghost use Rattle.pl_choose.specs.Picked.{IsPicked};
 
 use crate::alone::{Alone, try_alone};
 use crate::best::Best;
-use crate::bounded::{best_by_bounds, lowest_of, lowest_place};
+use crate::bounded::{lowest_of, lowest_place};
 use crate::hopes::hopes_of;
 use crate::picked::Picked;
 use crate::purpose::{Purpose, enough_for};
+use crate::runs::best_by_runs;
 use crate::tries::{Tried, better};
 use pl_board::Board;
 use pl_moves::Trial;
@@ -74,7 +75,7 @@ fn try_aim(
     requires unspoiled { board.old.spoiled ≡ false }
     requires next { board.old.state.next_id ≤ 3999999000 }
     requires allowed { All (IsAllowed board.old.state) moves.now }
-    requires least { AreLeast board.old.state moves.now bounds.now }
+    requires beside { AreLeastBesideStates board.old.state moves.now bounds.now }
     requires count { length bounds.now ≡ length moves.now }
     requires some { 0 < length moves.now }
     ensures aimed { IfOk result (λ a. IsAimed purpose best moves.now board.old a board.new) }
@@ -87,7 +88,7 @@ fn try_aim(
         Alone::Made(trial) => Ok(Aimed::Made(aim, trial)),
         Alone::Undone { left } => {
             let first = above(best, &aim, left);
-            let before = best_by_bounds(alloc, board, first, &moves[..at], &bounds[..at])?;
+            let before = best_by_runs(alloc, board, first, &moves[..at], &bounds[..at])?;
             Ok(Aimed::Passed(Tried {
                 best: better(before, &aim, left),
                 count: at + 1,
@@ -110,7 +111,7 @@ pub(crate) fn pick_by_aims(
     requires unspoiled { board.old.spoiled ≡ false }
     requires next { board.old.state.next_id ≤ 3999999000 }
     requires allowed { All (IsAllowed board.old.state) moves.now }
-    requires least { AreLeast board.old.state moves.now bounds.now }
+    requires beside { AreLeastBesideStates board.old.state moves.now bounds.now }
     ensures picked { IfOk result (λ p. IsPicked purpose (λ m. m ≡ (best_of (left_after board.old.state) best moves.now).mv) board.old p board.new) }
     ensures err { OnErr result (board.new.spoiled ≡ true) }
 {
@@ -119,7 +120,7 @@ pub(crate) fn pick_by_aims(
         return Ok(Picked::Found(best.mv));
     }
     if aims == 0 {
-        let best = best_by_bounds(alloc, board, best, &hopes.moves, &hopes.bounds)?;
+        let best = best_by_runs(alloc, board, best, &hopes.moves, &hopes.bounds)?;
         return Ok(Picked::Found(best.mv));
     }
     match try_aim(alloc, board, best, &hopes.moves, &hopes.bounds, purpose)? {

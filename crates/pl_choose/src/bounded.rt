@@ -1,7 +1,7 @@
 //! Moves with their bounds: the bound of a move is a number of conflicts that it leaves at least.
 ghost use Rattle.std.specs.Prelude.{◌≡◌, ◌<◌, ◌≤◌, false, true, All, IfOk, OnOk, OnErr, length};
 ghost use Rattle.pl_semantics.specs.Legal.{left_after};
-ghost use Rattle.pl_bounds.specs.Bounds.{AreLeast};
+ghost use Rattle.pl_bounds.specs.Bounds.{AreLeast, AreLeastBesideStates};
 ghost use Rattle.pl_choose.specs.Found.{IsAllowed};
 ghost use Rattle.pl_choose.specs.Tried.{best_of};
 
@@ -23,6 +23,7 @@ pub(crate) fn bounds_of(
     requires next { board.old.state.next_id ≤ 3999999000 }
     requires allowed { All (IsAllowed board.old.state) moves.now }
     ensures least { IfOk result (λ ns. AreLeast board.old.state moves.now ns.items) }
+    ensures beside { IfOk result (λ ns. AreLeastBesideStates board.old.state moves.now ns.items) }
     ensures same { OnOk result (board.new ≡ board.old) }
     ensures err { OnErr result (board.new.spoiled ≡ true) }
 {

@@ -2,7 +2,7 @@
 ghost use Rattle.std.specs.Prelude.{◌≡◌, ◌∷◌, ◌++◌, [], true, All, IfOk, OnOk, OnErr, length};
 ghost use Rattle.pl_choose.specs.Tried.{below, AreHopes};
 ghost use Rattle.pl_choose.specs.Found.{IsAllowed};
-ghost use Rattle.pl_bounds.specs.Bounds.{AreLeast};
+ghost use Rattle.pl_bounds.specs.Bounds.{AreLeast, AreLeastBesideStates};
 
 use crate::best::Best;
 use pl_board::Board;
@@ -70,6 +70,7 @@ pub(crate) fn hopes_of(
 ) -> Result<Hopes, AllocError>
     requires allowed { All (IsAllowed board.old.state) moves.now }
     requires least { AreLeast board.old.state moves.now bounds.now }
+    ensures beside { IfOk result (λ h. AreLeastBesideStates board.old.state moves.now bounds.now → AreLeastBesideStates board.old.state h.moves.items h.bounds.items) }
     ensures hopes { IfOk result (λ h. AreHopes board.old.state best moves.now h.moves.items h.bounds.items) }
     ensures same { OnOk result (board.new ≡ board.old) }
     ensures err { OnErr result (board.new.spoiled ≡ true) }

@@ -18,6 +18,7 @@ mod promising;
 mod purpose;
 mod remembering;
 mod repairs;
+mod runs;
 mod search;
 mod seeded;
 mod sharing;

@@ -2,6 +2,8 @@ use Rattle.std.proofs.Common.{◌≡◌, ◌<◌, ◌+◌, List, length, take, d
 use Rattle.pl_plan.specs.declared.repair.RepairMove.{RepairMove}
 use Rattle.pl_plan.specs.declared.repair.RepairMove.TheVariants.{Add}
 use Rattle.pl_semantics.specs.Legal.{left_after}
+use Rattle.pl_bounds.specs.Bounds.{left_beside_states}
+use Rattle.pl_bounds.proofs.Pushing.{least_of_beside}
 use Rattle.pl_choose.specs.declared.best.Best.{Best}
 use Rattle.pl_choose.specs.Alone.{AreEnough}
 use Rattle.pl_choose.specs.Picked.{enough_for}
@@ -10,10 +12,10 @@ use Rattle.pl_choose.proofs.Aims.{is_mended, few_enough, aim_made}
 use Rattle.pl_choose.proofs.Trying.{least_take, aimed}
 use Rattle.pl_choose.proofs.aiming.try_aim.Goals as goal
 
-pub best_by_bounds-requires-clause-least : goal.best_by_bounds-requires-clause-least
-best_by_bounds-requires-clause-least c =
+pub best_by_runs-requires-clause-beside : goal.best_by_runs-requires-clause-beside
+best_by_runs-requires-clause-beside c =
     let tried = rw c.in-Undone.is at c.in_ok-trial.ensures.tried in
-    rw tried.2 (least_take c.args.board.now.state c.lowest_place-at.result c.args.moves.now c.args.bounds.now c.requires.least)
+    rw tried.2 (least_take (left_beside_states c.args.board.now.state) c.lowest_place-at.result c.args.moves.now c.args.bounds.now c.requires.beside)
 
 pub returns-in-Made-clause-aimed : goal.returns-in-Made-clause-aimed
 returns-in-Made-clause-aimed c =
@@ -24,7 +26,7 @@ returns-in-Made-clause-aimed c =
     let made = rw c.in-Made.is at c.in_ok-trial.ensures.tried in
     let few : AreEnough (enough_for c.args.purpose c.enough_at.result) (left_after s (get_or moves at (Add 0 0 None))) = rw c.enough_for-enough.ensures at made.0 in (
       is_mended c.args.purpose c.enough_at.result (left_after s (get_or moves at (Add 0 0 None))) few,
-      aim_made s c.args.best moves c.args.bounds.now at (Add 0 0 None) c.enough_at.result within c.requires.least (few_enough c.args.purpose c.enough_at.result (left_after s (get_or moves at (Add 0 0 None))) few) c.enough_at.ensures.best c.enough_at.ensures.before c.enough_at.ensures.others,
+      aim_made s c.args.best moves c.args.bounds.now at (Add 0 0 None) c.enough_at.result within (least_of_beside s moves c.args.bounds.now c.requires.beside) (few_enough c.args.purpose c.enough_at.result (left_after s (get_or moves at (Add 0 0 None))) few) c.enough_at.ensures.best c.enough_at.ensures.before c.enough_at.ensures.others,
       made.1,
       made.2,
     )

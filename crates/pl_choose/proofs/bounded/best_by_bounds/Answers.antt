@@ -8,7 +8,7 @@ use Rattle.pl_choose.proofs.Trying.{least_drop, run_tried}
 use Rattle.pl_choose.proofs.bounded.best_by_bounds.Goals as goal
 
 pub hopes_of-requires-in-runs-clause-least : goal.hopes_of-requires-in-runs-clause-least
-hopes_of-requires-in-runs-clause-least c = rw (c.in_ok-tried.ensures.same, c.runs.invariant.same, c.deref-in-runs.ensures.value, c.deref-in-runs-2.ensures.value, take_rest, take_rest) (least_drop c.args.board.now.state c.in_ok-tried.tried.count c.runs.hopes.moves.items c.runs.hopes.bounds.items c.runs.invariant.least)
+hopes_of-requires-in-runs-clause-least c = rw (c.in_ok-tried.ensures.same, c.runs.invariant.same, c.deref-in-runs.ensures.value, c.deref-in-runs-2.ensures.value, take_rest, take_rest) (least_drop (left_after c.args.board.now.state) c.in_ok-tried.tried.count c.runs.hopes.moves.items c.runs.hopes.bounds.items c.runs.invariant.least)
 
 pub runs-smaller : goal.runs-smaller
 runs-smaller c =
