@@ -5,7 +5,7 @@ use Rattle.std.specs.Ordering.{int_eq}
 use Rattle.std.proofs.lemmas.Bool.{false≢true, cond_both, lt-ltb, leb-true, leb-false}
 use Rattle.std.proofs.lemmas.Bool.Decides.{Decides-int_eq}
 use Rattle.std.proofs.lemmas.Int.{ints, to_z-of_z}
-use Rattle.std.proofs.lemmas.List.{drop_all}
+use Rattle.std.proofs.lemmas.List.{append_assoc, drop_all}
 use mir.Val.{to_z, of_z, SFits}
 use mir.Syntax.{w64}
 use Rattle.pl_lists.specs.Lists.{front, back}
@@ -16,7 +16,7 @@ use Rattle.pl_points.proofs.PointLists.{small_along, parted_points}
 use Rattle.pl_points.proofs.Outside.{below_none, first_is_leaving}
 use Rattle.pl_points.proofs.Strolls.{sum_is_below}
 use Rattle.pl_blocks.specs.Blocks.{together, is_past, change_of}
-use Rattle.pl_blocks.proofs.Rows.{append_nil, take_drop, in_two, middle, small_split, small_head, past_more, below_past, rise_split, is_past_up_to, whole_in_three, not_past_there, below_append, change_next}
+use Rattle.pl_blocks.proofs.Rows.{append_nil, take_drop, in_two, middle, small_split, small_head, past_more, below_past, rise_split, is_past_up_to, whole_in_three, not_past_there, below_append, change_next, drop_block}
 use Rattle.pl_blocks.proofs.Summaries.{leaving_first, leaving_later}
 use Rattle.pl_blocks.proofs.Searches.{change_cut, below_past_one, place_cut, sums_at}
 
@@ -181,29 +181,40 @@ past_middle ps m middle at le before reaches = cases (leb m middle) refl
 pub small_is : (z : ℤ) → IsSmall z → to_z w64 (of_z w64 z) ≡ z
 small_is z small = to_z-of_z w64 z (omega (arith, ints, small.0, small.1))
 
--- the last block: what lies before it, and its sums
-pub last_block : (i : ℕ) (bs : List (List Point)) (b : List Point) (all sum : ℤ) → ArePoints (together bs) → i < length bs → length bs ≤ suc i → b ≡ get_or bs i b → all ≡ change_of (together bs) → sum ≡ change_of b
-    → (all ≡ change_of (together (take i bs)) +ℤ sum) × SmallFrom (change_of (together (take i bs))) b
-last_block i bs b all sum are lt last is one two =
+-- one block back: what lies before it, its sums, and the rest of the row from it on
+pub block_back : (i n : ℕ) (bs : List (List Point)) (b : List Point) → ArePoints (together bs) → i < length bs → n ≡ i + 1 → b ≡ get_or bs i b
+    → (change_of (together (take n bs)) ≡ change_of (together (take i bs)) +ℤ change_of b) × (SmallFrom (change_of (together (take i bs))) b × (together (drop i bs) ≡ b ++ together (drop n bs)))
+block_back i n bs b are lt next is =
     let us = together (take i bs) in
     let ws = together (drop (suc i) bs) in
-    let parts = whole_in_three i bs b lt is in
-    let none : change_of ws ≡ pos 0 = ap (λ l. change_of (together l)) (drop_all (suc i) bs last) in
-    let along : SmallFrom (pos 0) (us ++ (b ++ ws)) = subst (SmallFrom (pos 0)) parts (small_along (together bs) are) in
+    let along : SmallFrom (pos 0) (us ++ (b ++ ws)) = subst (SmallFrom (pos 0)) (whole_in_three i bs b lt is) (small_along (together bs) are) in
     let same : pos 0 +ℤ change_of us ≡ change_of us = omega (arith, ints) in
     let small : SmallFrom (change_of us) (b ++ ws) = subst (λ z. SmallFrom z (b ++ ws)) same (small_split (pos 0) us (b ++ ws) along).1 in
-    (omega (arith, ints, one, two, none, ap change_of parts, change_append us (b ++ ws), change_append b ws), (small_split (change_of us) b ws small).0)
+    let rest : together (drop i bs) ≡ b ++ together (drop n bs) = ap together (drop_block i n bs b lt next is) in
+    let sum : change_of (together (take n bs)) ≡ change_of us +ℤ change_of b = omega (arith, ints, change_in_two i bs, change_in_two n bs, ap change_of rest, change_append b (together (drop n bs))) in
+    (sum, ((small_split (change_of us) b ws small).0, rest))
 
--- where no sum in the last block is outside, none from a moment in it on is
-pub calm_end : (bs : List (List Point)) (i from : ℕ) (b : List Point) (L M before : ℤ) → ArePoints (together bs) → take i bs ≡ front (is_past from) bs → drop i bs ≡ back (is_past from) bs → i < length bs → length bs ≤ suc i → b ≡ get_or bs i b → before ≡ sum_below (together bs) from
-    → is_some (leaving L M (change_of (together (take i bs))) b) ≡ false → None ≡ first_outside (together bs) from L M
-calm_end bs i from b L M before are earlier rest lt last is sum calm =
+-- where no sum in a block is outside, and none behind it, none is from the block on
+pub calm_back : (i n : ℕ) (bs : List (List Point)) (b : List Point) (L M : ℤ) → ArePoints (together bs) → i < length bs → n ≡ i + 1 → b ≡ get_or bs i b
+    → is_some (leaving L M (change_of (together (take i bs))) b) ≡ false → is_some (leaving L M (change_of (together (take n bs))) (together (drop n bs))) ≡ false
+    → is_some (leaving L M (change_of (together (take i bs))) (together (drop i bs))) ≡ false
+calm_back i n bs b L M are lt next is here behind =
+    let h = block_back i n bs b are lt next is in
+    let pre = change_of (together (take i bs)) in
+    let ws = together (drop n bs) in
+    ap (λ l. is_some (leaving L M pre l)) h.1.1 ∙ ap is_some (leaving_later L M pre b ws here) ∙ ap (λ z. is_some (leaving L M z ws)) (sym h.0) ∙ behind
+
+-- where no sum from a block on is outside, none from a moment in it on is
+pub calm_end : (bs : List (List Point)) (i from : ℕ) (b : List Point) (L M before : ℤ) → ArePoints (together bs) → take i bs ≡ front (is_past from) bs → drop i bs ≡ back (is_past from) bs → i < length bs → b ≡ get_or bs i b → before ≡ sum_below (together bs) from
+    → is_some (leaving L M (change_of (together (take i bs))) (together (drop i bs))) ≡ false → None ≡ first_outside (together bs) from L M
+calm_end bs i from b L M before are earlier rest lt is sum calm =
     let sums = sums_at bs i from b are earlier rest lt is in
     let pre = change_of (together (take i bs)) in
     let xs = front (is_before from) b in
     let ys = back (is_before from) b in
+    let ws = together (drop (suc i) bs) in
     let cut : xs ++ ys ≡ b = front-back (is_before from) b in
-    let none : is_some (leaving L M pre (xs ++ ys)) ≡ false = ap (λ l. is_some (leaving L M pre l)) cut ∙ calm in
-    let behind : back (is_before from) (together bs) ≡ ys = sums.whole ∙ ap (λ l. ys ++ together l) (drop_all (suc i) bs last) ∙ append_nil ys in
+    let parts : xs ++ (ys ++ ws) ≡ together (drop i bs) = sym (append_assoc xs ys ws) ∙ ap (λ l. l ++ ws) cut ∙ sym (ap together (drop_block i (suc i) bs b lt (omega arith) is)) in
+    let none : is_some (leaving L M pre (xs ++ (ys ++ ws))) ≡ false = ap (λ l. is_some (leaving L M pre l)) parts ∙ calm in
     let start : pre +ℤ change_of xs ≡ before = omega (arith, ints, sum, sums.before, sums.change, ap change_of cut, change_append xs ys) in
-    none_behind L M pre xs ys none ∙ ap (λ z. leaving L M z ys) start ∙ ap (leaving L M before) (sym behind) ∙ sym (first_is_leaving (together bs) from L M before are.rising sum)
+    none_behind L M pre xs (ys ++ ws) none ∙ ap (λ z. leaving L M z (ys ++ ws)) start ∙ ap (leaving L M before) (sym sums.whole) ∙ sym (first_is_leaving (together bs) from L M before are.rising sum)

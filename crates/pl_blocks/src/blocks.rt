@@ -1,9 +1,9 @@
-ghost use Rattle.std.specs.Prelude.{◌≡◌, ◌<◌, ◌≤◌, ◌+◌, ◌*◌, ◌/◌, ◌^◌, true, false, suc, is_some, [], ◌∷◌, length, take, slice_index_or, OnOk, OnErr};
+ghost use Rattle.std.specs.Prelude.{◌≡◌, ◌<◌, ◌≤◌, ◌+◌, ◌*◌, ◌/◌, ◌^◌, true, false, suc, is_some, [], ◌∷◌, length, take, drop, OnOk, OnErr};
 ghost use Rattle.pl_points.specs.Points.{leaving, RiseFrom, SmallFrom, AreSmall, ArePoints, ahead_of, put, IsNear};
 ghost use Rattle.pl_blocks.specs.Blocks.{together, blocks_from, change_of, AreSized};
 
 use crate::block::Block;
-use crate::finding::past_near;
+use crate::finding::{LATE, past_near};
 use crate::mending::merge_at;
 use crate::summing::sum_before;
 use pl_lists::Copied;
@@ -78,21 +78,27 @@ fn leaving_blocks<L: Ledger>(
     None
 }
 
-// Whether the block at the place is the last, and its summary says that no sum in it is outside. All
-// deltas of the row add up to `total`.
+// Whether the block at the place is one of the last few, and the summaries of these from there on say that no sum in
+// them is outside. All deltas of the row add up to `total`.
 fn ends_calm(blocks: &[Block], place: usize, total: i64, least: i64, most: i64) -> bool
     requires there { place < length blocks.now }
     requires points { ArePoints (together blocks.now) }
     requires total { total ≡ change_of (together blocks.now) }
-    ensures last { result ≡ true → length blocks.now ≤ suc place }
-    ensures calm { result ≡ true → is_some (leaving least most (change_of (together (take place blocks.now))) (slice_index_or blocks.now place [])) ≡ false }
+    ensures { result ≡ true → is_some (leaving least most (change_of (together (take place blocks.now))) (together (drop place blocks.now))) ≡ false }
 {
-    if place + 1 < blocks.len() {
+    let count = blocks.len();
+    if place < count.saturating_sub(LATE) {
         return false;
     }
-    let block = &blocks[place];
-    let start = total - block.sum();
-    block.is_calm(start, least, most)
+    let mut start = total;
+    for here in (place..count).rev() {
+        let block = &blocks[here];
+        start -= block.sum();
+        if !block.is_calm(start, least, most) {
+            return false;
+        }
+    }
+    true
 }
 
 // The first point of the row.

@@ -6,8 +6,8 @@ ghost use Rattle.pl_blocks.specs.Blocks.{together, is_past, AreSized, ArePast};
 use crate::block::Block;
 use pl_points::{Ledger, Steps};
 
-// So many blocks at the end of a row are looked at one by one, since most of what is sought is late.
-const LATE: usize = 8;
+/// So many blocks at the end of a row are looked at one by one, since most of what is sought is late.
+pub(crate) const LATE: usize = 8;
 
 // How many blocks lie whole before the moment: a step for each that it looks at.
 fn past_count<L: Ledger>(blocks: &[Block], at: u32, steps: &mut Steps<L>) -> usize

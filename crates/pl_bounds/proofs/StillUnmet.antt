@@ -88,11 +88,11 @@ each_more_moved line P f ds i d lt before one =
 
 front_has : (p : Setting → Bool) (x : Setting) (xs : List Setting) → Has x (front p xs) → Has x xs × (p x ≡ true)
 front_has p x [] has = absurd has
-front_has p x (y ∷ ys) has = by (p y) refl has
+front_has p x (y ∷ ys) has = by (p y) refl has (front_has p x ys)
   where
-    by : (b : Bool) → p y ≡ b → Has x (cond b (y ∷ front p ys) []) → Has x (y ∷ ys) × (p x ≡ true)
-    by true e h = elim h [ inl is ↦ (inl is, subst (λ (z : Setting). p z ≡ true) is e) | inr more ↦ (let rest = front_has p x ys more in (inr rest.0, rest.1)) ]
-    by false e h = absurd h
+    by : (b : Bool) → p y ≡ b → Has x (cond b (y ∷ front p ys) []) → (Has x (front p ys) → Has x ys × (p x ≡ true)) → Has x (y ∷ ys) × (p x ≡ true)
+    by true e h rest = elim h [ inl is ↦ (inl is, subst (λ (z : Setting). p z ≡ true) is e) | inr more ↦ (inr (rest more).0, (rest more).1) ]
+    by false e h rest = absurd h
 
 pub last_stands : (s : PlanState) (line t : ℕ) (o : Option Setting) → o ≡ last_by t (sets_of line (demands_of s)) → IfSome o (λ w. StandsBy s line t w)
 last_stands s line t None is = tt

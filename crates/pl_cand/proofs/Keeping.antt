@@ -1,7 +1,9 @@
 -- The first so many of those that pass a test, and moves where they first stand.
 use Rattle.std.proofs.Common.{◌≡◌, ℕ, zero, suc, ◌+◌, ◌-◌, ◌<◌, ◌≤◌, Bool, true, false, List, [], ◌∷◌, ◌++◌, length, take, drop, get_or, map, add-one, drop-cons, refl, sym, ap, ◌∙◌, arith, append_assoc, append-nil, length-append, eqb}
-use Rattle.std.proofs.lemmas.Bool.{eqb-true, and_parts}
-use Rattle.std.specs.Prelude.{filter, ◌||◌}
+use Rattle.std.proofs.lemmas.Bool.{eqb-true, and_parts, lt-ltb}
+use Rattle.std.proofs.lemmas.List.{take-append-drop, drop-drop}
+use Rattle.std.proofs.lemmas.List.Elements.{All-head, All-tail}
+use Rattle.std.specs.Prelude.{All, filter, ◌||◌}
 use Rattle.std.specs.List.{list_any}
 use Rattle.std.proofs.lemmas.List.Folds.{list_any-append}
 use Rattle.pl_plan.specs.declared.repair.RepairMove.{RepairMove}
@@ -14,7 +16,7 @@ use Rattle.pl_semantics.specs.declared.plan_state.PlanState.{PlanState}
 use Rattle.pl_cand.specs.declared.role.Role.{Role}
 use Rattle.pl_cand.specs.Tests.{is_user, users_with}
 use Rattle.pl_model.specs.declared.kinds.Kind.{Kind}
-use Rattle.pl_semantics.specs.PlanStates.{numbered}
+use Rattle.pl_semantics.specs.PlanStates.{is_committed, numbered}
 use Rattle.pl_cand.specs.declared.help.Help.{Help}
 use Rattle.pl_cand.specs.Helping.{helpers_with, is_helper, number_of}
 use Rattle.pl_cand.specs.Cuts.{once_after, standing, are_alike}
@@ -65,6 +67,24 @@ module _ (s : PlanState) (line : ℕ) (part : Role) (ids : List ℕ) (a : Activi
 
   pub users_more : length ids < 8 → is_user s line part a ≡ true → users_with s line part ids (a ∷ rest) ≡ users_with s line part (ids ++ a.id ∷ []) rest
   users_more room is = room_more id_of (is_user s line part) 8 ids a rest room is
+
+-- committed activities are passed over
+pub users_early : (s : PlanState) (line : ℕ) (part : Role) (ids : List ℕ) (xs ys : List Activity) → All (λ a. a.start < s.committed) xs → users_with s line part ids (xs ++ ys) ≡ users_with s line part ids ys
+users_early s line part ids [] ys early = refl
+users_early s line part ids (a ∷ xs) ys early =
+    let first : a.start < s.committed = All-head (λ (x : Activity). x.start < s.committed) a xs early in
+    let committed : is_committed s a ≡ true = lt-ltb a.start s.committed first in
+    let past : is_user s line part a ≡ false = rw committed refl in
+    users_past s line part ids a (xs ++ ys) past ∙ users_early s line part ids xs ys (All-tail (λ (x : Activity). x.start < s.committed) a xs early)
+
+-- the same from a place on up to a later one
+pub users_later : (s : PlanState) (line : ℕ) (part : Role) (ids : List ℕ) (xs : List Activity) (place begin : ℕ) → place ≤ begin → All (λ a. a.start < s.committed) (take (begin - place) (drop place xs)) → users_with s line part ids (drop place xs) ≡ users_with s line part ids (drop begin xs)
+users_later s line part ids xs place begin le early =
+    let n = begin - place in
+    let ys = drop place xs in
+    let same : place + n ≡ begin = omega (arith, le) in
+    let rest : drop n ys ≡ drop begin xs = drop-drop n place xs ∙ ap (λ k. drop k xs) same in
+    ap (users_with s line part ids) (sym (take-append-drop n ys)) ∙ (users_early s line part ids (take n ys) (drop n ys) early ∙ ap (users_with s line part ids) rest)
 
 -- ---- the first four helpers
 

@@ -28,6 +28,7 @@ mod stuck;
 mod telling;
 mod timelines;
 mod told;
+mod user_list;
 mod users;
 mod worth;
 

@@ -14,7 +14,7 @@ use crate::helping::add_help;
 use crate::repairs::add_moves;
 use crate::role::{Role, Way};
 use crate::starts::add_shift;
-use crate::users::first_users;
+use crate::user_list::first_users;
 use pl_model::Reservation;
 use pl_plan::{Activity, RepairMove};
 use pl_semantics::PlanState;

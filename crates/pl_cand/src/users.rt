@@ -1,15 +1,13 @@
 //! The users of a timeline that has a conflict: the activities that do to it what a repair is to change.
-ghost use Rattle.std.specs.Prelude.{◌≡◌, ◌<◌, ◌≤ℤ◌, pos, List, ◌∷◌, IfOk, IfSome, OnOk, Some, All, length, map};
+ghost use Rattle.std.specs.Prelude.{◌≡◌, ◌<◌, ◌≤ℤ◌, pos, IfOk, IfSome, Some, All, length};
 ghost use Rattle.std.specs.List.{list_any};
 ghost use Rattle.pl_model.specs.Values.{NamesBelow};
-ghost use Rattle.pl_plan.specs.declared.activity.Activity.{Activity};
 ghost use Rattle.pl_plan.specs.Activities.{activity_of};
 ghost use Rattle.pl_plan.specs.Firm.{amount_of};
-ghost use Rattle.pl_plan.specs.Trees.{id_of};
 ghost use Rattle.pl_semantics.specs.Whole.{IsWhole};
 ghost use Rattle.pl_semantics.specs.Demands.{amount_in, moment_of_base, since};
-ghost use Rattle.pl_semantics.specs.LineRepairs.{first_eight, point_counts, takes_in};
-ghost use Rattle.pl_cand.specs.Tests.{changes_at, changes_below, is_user, may_take, plays, users_with, uses_in};
+ghost use Rattle.pl_semantics.specs.LineRepairs.{point_counts, takes_in};
+ghost use Rattle.pl_cand.specs.Tests.{changes_at, changes_below, is_user, may_take, plays, uses_in};
 ghost use Rattle.pl_cand.specs.Levels.{HasBase, IsOfLevel};
 
 use crate::reading::{is_committed, moment_of, reservations_of};
@@ -18,9 +16,6 @@ use pl_model::{Expr, Point, Reservation, eval};
 use pl_plan::Activity;
 use pl_semantics::PlanState;
 use std::alloc::{AllocError, Global};
-
-/// For how many users moves are tried, at most.
-pub(crate) const USERS: usize = 8;
 
 fn amount_in(amount: &Expr, values: &[Option<i64>]) -> i64
     requires { NamesBelow (length values.now) amount.now }
@@ -244,46 +239,4 @@ pub(crate) fn is_user(
         return Ok(false);
     }
     plays(alloc, state, timeline, role, a)
-}
-
-// Puts the id of an activity at the end if it is not committed and plays the role.
-#[tactic(auto, using(crate::proofs::Keeping::users_past, crate::proofs::Keeping::users_more))]
-fn add_if_user(
-    alloc: Global,
-    state: &PlanState,
-    timeline: u32,
-    role: Role,
-    a: &Activity,
-    ids: &mut Vec<u32>,
-) -> Result<(), AllocError>
-    requires whole { IsWhole state.now }
-    requires live { activity_of a.now.id state.now.plan.activities ≡ Some a.now }
-    requires room { length ids.old.items < 8 }
-    ensures { OnOk result ((rest : List Activity) → users_with state.now timeline role ids.old.items (a.now ∷ rest) ≡ users_with state.now timeline role ids.new.items rest) }
-{
-    if is_user(alloc, state, timeline, role, a)? {
-        ids.push(a.id)?;
-    }
-    Ok(())
-}
-
-/// The ids of the first eight activities that are not committed and play the role.
-#[tactic(auto, using(crate::proofs::Keeping::users_full))]
-pub(crate) fn first_users(
-    alloc: Global,
-    state: &PlanState,
-    timeline: u32,
-    role: Role,
-) -> Result<Vec<u32>, AllocError>
-    requires { IsWhole state.now }
-    ensures { IfOk result (λ ids. ids.items ≡ map id_of (first_eight state.now (plays state.now timeline role))) }
-{
-    let mut ids = Vec::new(alloc);
-    for a in state.plan.activities() {
-        if ids.len() >= USERS {
-            return Ok(ids);
-        }
-        add_if_user(alloc, state, timeline, role, a, &mut ids)?;
-    }
-    Ok(ids)
 }

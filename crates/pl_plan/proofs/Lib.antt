@@ -6,6 +6,7 @@ pub mod RisingIds
 pub mod Pairs
 pub mod Owned
 pub mod Counting
+pub mod Noting
 pub mod Keeping
 pub mod Climbs
 pub mod ValueSteps

@@ -8,6 +8,7 @@ pub mod Trees
 pub mod Serving
 pub mod Indexed
 pub mod Counts
+pub mod Latest
 pub mod Fitting
 pub mod Values
 pub mod Firm

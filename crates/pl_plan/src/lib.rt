@@ -9,6 +9,7 @@ mod families;
 mod firmness;
 mod index;
 mod known;
+mod latest;
 mod laws;
 mod plan;
 mod repair;

@@ -1,13 +1,15 @@
-ghost use Rattle.std.specs.Prelude.{◌≡◌, ◌≢◌, ◌↔◌, All, IsNone, ◌+◌, ◌^◌, ◌<◌, ◌≤◌, [], length, slice_get, OnOk, OnErr, IfOk, IfErr, Some, None};
+ghost use Rattle.std.specs.Prelude.{◌≡◌, ◌≢◌, ◌↔◌, All, IsNone, ◌+◌, ◌-◌, ◌^◌, ◌<◌, ◌≤◌, [], length, take, drop, slice_get, OnOk, OnErr, IfOk, IfErr, Some, None};
 ghost use Rattle.std.specs.Option.{option_copied};
 ghost use Rattle.pl_plan.specs.Activities.{AreRising, IsLive, KeepsPlace, activity_of, placed, without, exchanged, with_end, measured_of};
 ghost use Rattle.pl_plan.specs.Indexed.{AreIndexed};
 ghost use Rattle.pl_plan.specs.Counts.{AreCounted};
 ghost use Rattle.pl_plan.specs.Places.{IsPlaceOf, IsGapFor};
+ghost use Rattle.pl_plan.specs.Latest.{AreNoted};
 
 use crate::activity::Activity;
 use crate::counts::{Counts, served_goal};
 use crate::families::Families;
+use crate::latest::{Latest, count_before, group_of};
 use crate::searching::search;
 use pl_lists::Copied;
 use std::alloc::{AllocError, Global};
@@ -20,6 +22,7 @@ pub struct Plan {
     activities: Vec<Activity>,
     families: Families,
     counts: Counts,
+    latest: Latest,
 }
 
 impl Model for Plan {
@@ -30,10 +33,11 @@ impl Model for Plan {
 
     ghost use Rattle.pl_plan.specs.Indexed.{AreIndexed};
     ghost use Rattle.pl_plan.specs.Counts.{AreCounted};
+    ghost use Rattle.pl_plan.specs.Latest.{AreNoted};
 
     ghost view = { λ p. record { activities = p.activities.items } };
 
-    ghost invariant = { λ p. AreIndexed p.activities.items p.families.children p.families.servers × (length p.activities.items < 2 ^ 32) × AreCounted p.activities.items p.counts };
+    ghost invariant = { λ p. AreIndexed p.activities.items p.families.children p.families.servers × (length p.activities.items < 2 ^ 32) × AreCounted p.activities.items p.counts × AreNoted p.activities.items p.latest };
 }
 
 impl Plan {
@@ -45,6 +49,7 @@ impl Plan {
             activities: Vec::new(alloc),
             families: Families::new(alloc),
             counts: Counts::new(alloc),
+            latest: Latest::new(alloc),
         }
     }
 
@@ -82,9 +87,12 @@ impl Plan {
         ensures err { OnErr result (self.new ≡ self.old) }
     {
         let goal = served_goal(&a);
+        let group = group_of(a.id);
         self.activities.reserve(1)?;
         self.counts.make_place(goal)?;
+        self.latest.make_note(group)?;
         self.families.enter(&a)?;
+        self.latest.note(group, a.start);
         self.activities.insert(at, a).unwrap();
         self.counts.raise(goal);
         Ok(())
@@ -109,6 +117,8 @@ impl Plan {
         ensures after { self.new.activities ≡ exchanged a self.old.activities }
     {
         let at = self.place(a.id);
+        let group = group_of(a.id);
+        self.latest.note(group, a.start);
         mem::replace(&mut self.activities[at], a)
     }
 
@@ -162,6 +172,24 @@ impl Plan {
         ensures few { length self.now.activities < 2 ^ 32 }
     {
         &self.activities
+    }
+
+    /// Passes over activities that start before a moment: the place of another activity behind them, or of none. Where many start
+    /// before it, most of them are passed over.
+    pub fn pass_early(&self, from: usize, moment: u32) -> usize
+        requires { from ≤ length self.now.activities }
+        ensures low { from ≤ result }
+        ensures bound { result ≤ length self.now.activities }
+        ensures early { All (λ a. a.start < moment) (take (result - from) (drop from self.now.activities)) }
+    {
+        let others = &self.activities[from..];
+        match others.first() {
+            Some(first) => {
+                let group = self.latest.first_late(group_of(first.id), moment);
+                from + count_before(others, group)
+            }
+            None => from,
+        }
     }
 
     pub(crate) fn families(&self) -> &Families

@@ -43,11 +43,11 @@ returns-then-ends_calm-clause-first g c =
     let before : take i bs ≡ front (is_past from) bs = rw c.deref.ensures.value at c.past_near-place.ensures.before in
     let rest : drop i bs ≡ back (is_past from) bs = rw c.deref.ensures.value at c.past_near-place.ensures.rest in
     let lt : i < length bs = omega (arith, c.if-place-len.false, c.len.ensures, c.deref.ensures.len, ap length c.deref.ensures.value, c.past_near-place.ensures.bound) in
-    let last : length bs ≤ suc i = omega (arith, c.ends_calm.ensures.last c.if-ends_calm.true, ap length c.deref-2.ensures.value) in
     let sum : c.args.before ≡ sum_below (together bs) from = c.requires ∙ ap (λ t. sum_below (together t) from) (sym c.self.view_is) in
-    let raw : is_some (leaving L M pre b) ≡ false = ap (λ t. is_some (leaving L M (change_of (together (take i t))) (get_or t i []))) (sym c.deref-2.ensures.value) ∙ c.ends_calm.ensures.calm c.if-ends_calm.true in
-    let calm : is_some (leaving l m pre b) ≡ false = ap is_some (sym (same_leaving L M pre l m pre b (to_z-of_z w64 l c.ranges.least) (to_z-of_z w64 m c.ranges.most) refl)) ∙ raw in
-    calm_end bs i from b l m c.args.before c.self.invariant.points before rest lt last (get_or_default bs i [] b lt) sum calm ∙ ap (λ t. first_outside (together t) from l m) c.self.view_is
+    let xs = together (drop i bs) in
+    let raw : is_some (leaving L M pre xs) ≡ false = ap (λ t. is_some (leaving L M (change_of (together (take i t))) (together (drop i t)))) (sym c.deref-2.ensures.value) ∙ c.ends_calm.ensures c.if-ends_calm.true in
+    let calm : is_some (leaving l m pre xs) ≡ false = ap is_some (sym (same_leaving L M pre l m pre xs (to_z-of_z w64 l c.ranges.least) (to_z-of_z w64 m c.ranges.most) refl)) ∙ raw in
+    calm_end bs i from b l m c.args.before c.self.invariant.points before rest lt (get_or_default bs i [] b lt) sum calm ∙ ap (λ t. first_outside (together t) from l m) c.self.view_is
 
 pub overflow_sub-start : goal.overflow_sub-start
 overflow_sub-start g c =

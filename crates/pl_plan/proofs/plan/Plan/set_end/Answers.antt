@@ -2,7 +2,9 @@ use Rattle.std.proofs.Common.{◌≡◌, List, Some, ap, sym, ◌∙◌, subst, 
 use Rattle.pl_plan.specs.declared.activity.Activity.{Activity}
 use Rattle.pl_plan.specs.Activities.{AreRising, activity_of, ended, with_end}
 use Rattle.pl_plan.proofs.Ends.{found_id, end_exchanged}
+use Rattle.pl_plan.specs.Latest.{AreNoted}
 use Rattle.pl_plan.proofs.Keeping.{kept_ended}
+use Rattle.pl_plan.proofs.Noting.{noted_ended}
 use Rattle.pl_plan.proofs.plan.Plan.set_end.Goals as goal
 
 same : (c : goal.After-self-1) → c.self.inside.activities.items ≡ c.args.self.now.activities
@@ -23,7 +25,9 @@ is c =
 
 pub invariant_of-self : goal.invariant_of-self
 invariant_of-self c =
-    kept_ended c.self.inside.activities.items c.args.self.now.activities _ c.self.inside.families.children c.self.inside.families.servers c.self.inside.counts c.args.id c.args.moment c.index_mut.result.now (same c) (is c) c.self.invariant (here c)
+    let k = kept_ended c.self.inside.activities.items c.args.self.now.activities _ c.self.inside.families.children c.self.inside.families.servers c.self.inside.counts c.args.id c.args.moment c.index_mut.result.now (same c) (is c) (c.self.invariant.0, c.self.invariant.1, c.self.invariant.2) (here c) in
+    let old = c.self.inside.latest in
+    (k.0, k.1, k.2, subst (λ (l : List Activity). AreNoted l old) (sym (is c)) (noted_ended old c.args.id c.args.moment c.args.self.now.activities (subst (λ (l : List Activity). AreNoted l old) (same c) c.self.invariant.3)))
 
 pub returns : goal.returns
 returns c = is c

@@ -3,7 +3,9 @@ use Rattle.std.specs.List.{remove}
 use Rattle.pl_plan.specs.Activities.{without, activity_of}
 use Rattle.pl_plan.specs.declared.activity.Activity.{Activity}
 use Rattle.pl_plan.specs.Counts.{AreCounted, Raises, MayFall}
+use Rattle.pl_plan.specs.Latest.{AreNoted}
 use Rattle.pl_plan.proofs.Keeping.{kept_without}
+use Rattle.pl_plan.proofs.Noting.{noted_without}
 use Rattle.pl_plan.proofs.Counting.{may_fall}
 use Rattle.pl_plan.proofs.plan.Plan.take_at.Goals as goal
 
@@ -32,8 +34,10 @@ pub invariant_of-self : goal.invariant_of-self
 invariant_of-self c =
     let same = ap (λ s. s.activities) c.self.view_is in
     let id = named c.before in
-    kept_without c.self.inside.activities.items c.args.self.now.activities c.remove-a.new.self.items c.self.inside.families.children c.self.inside.families.servers c.leave.new.self.children c.leave.new.self.servers c.self.inside.counts c.lower.new.self c.remove-a.result same
-    (is c.before ∙ ap (λ n. without n c.args.self.now.activities) (sym id)) c.self.invariant (ap (λ n. activity_of n c.args.self.now.activities) id ∙ here c.before) c.leave.ensures.children c.leave.ensures.servers (subst (λ o. Raises o c.lower.new.self c.self.inside.counts) c.served_goal.ensures c.lower.ensures)
+    let k = kept_without c.self.inside.activities.items c.args.self.now.activities c.remove-a.new.self.items c.self.inside.families.children c.self.inside.families.servers c.leave.new.self.children c.leave.new.self.servers c.self.inside.counts c.lower.new.self c.remove-a.result same
+    (is c.before ∙ ap (λ n. without n c.args.self.now.activities) (sym id)) (c.self.invariant.0, c.self.invariant.1, c.self.invariant.2) (ap (λ n. activity_of n c.args.self.now.activities) id ∙ here c.before) c.leave.ensures.children c.leave.ensures.servers (subst (λ o. Raises o c.lower.new.self c.self.inside.counts) c.served_goal.ensures c.lower.ensures) in
+    let old = c.self.inside.latest in
+    (k.0, k.1, k.2, subst (λ (l : List Activity). AreNoted l old) (sym (is c.before)) (noted_without old c.args.id c.args.self.now.activities (subst (λ (l : List Activity). AreNoted l old) same c.self.invariant.3)))
 
 pub returns-clause-value : goal.returns-clause-value
 returns-clause-value c = here c.before
