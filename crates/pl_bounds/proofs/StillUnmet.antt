@@ -69,11 +69,11 @@ must_in_line d m ds has is = has_flat (asked_of must_in d.line) d m ds has (rw (
 -- what a live activity asks for is asked for
 of_activities : (s : PlanState) (d : Demand) (id : ℕ) (xs : List Activity) → Has d (of_found (demands_at s) (activity_of id xs)) → Has d (flat_map (demands_at s) xs)
 of_activities s d id [] has = absurd has
-of_activities s d id (a ∷ xs) has = by (eqb a.id id) has
+of_activities s d id (a ∷ xs) has = by (eqb a.id id) has (of_activities s d id xs)
   where
-    by : (b : Bool) → Has d (of_found (demands_at s) (cond b (Some a) (activity_of id xs))) → Has d (demands_at s a ++ flat_map (demands_at s) xs)
-    by true here = has_left d (demands_at s a) (flat_map (demands_at s) xs) here
-    by false more = has_right d (demands_at s a) (flat_map (demands_at s) xs) (of_activities s d id xs more)
+    by : (b : Bool) → Has d (of_found (demands_at s) (cond b (Some a) (activity_of id xs))) → (Has d (of_found (demands_at s) (activity_of id xs)) → Has d (flat_map (demands_at s) xs)) → Has d (demands_at s a ++ flat_map (demands_at s) xs)
+    by true here rest = has_left d (demands_at s a) (flat_map (demands_at s) xs) here
+    by false more rest = has_right d (demands_at s a) (flat_map (demands_at s) xs) (rest more)
 
 pub asked_by_one : (s : PlanState) (id : ℕ) (d : Demand) → Has d (gone_from s (id ∷ [])) → Has d (demands_of s)
 asked_by_one s id d has = elim (has_either d (of_found (demands_at s) (found s id)) [] has) [ inl here ↦ of_activities s d id s.plan.activities here | inr none ↦ absurd none ]
@@ -91,12 +91,12 @@ front_has p x [] has = absurd has
 front_has p x (y ∷ ys) has = by (p y) refl has (front_has p x ys)
   where
     by : (b : Bool) → p y ≡ b → Has x (cond b (y ∷ front p ys) []) → (Has x (front p ys) → Has x ys × (p x ≡ true)) → Has x (y ∷ ys) × (p x ≡ true)
-    by true e h rest = elim h [ inl is ↦ (inl is, subst (λ (z : Setting). p z ≡ true) is e) | inr more ↦ (inr (rest more).0, (rest more).1) ]
+    by true e h rest = elim h [ inl is ↦ (inl is, subst (λ (z : Setting). p z ≡ true) is e) | inr more ↦ (let both = rest more in (inr both.0, both.1)) ]
     by false e h rest = absurd h
 
-pub last_stands : (s : PlanState) (line t : ℕ) (o : Option Setting) → o ≡ last_by t (sets_of line (demands_of s)) → IfSome o (λ w. StandsBy s line t w)
-last_stands s line t None is = tt
-last_stands s line t (Some w) is =
-    let xs : List Setting = sets_of line (demands_of s) in
-    let both = front_has (is_passed t) w xs (has_at (front (is_passed t) xs) (length (front (is_passed t) xs) - 1) w (sym is)) in
-    (both.0, leb-true w.at t both.1)
+pub last_stands : (s : PlanState) (n p : ℕ) (o : Option Setting) → o ≡ last_by p (sets_of n (demands_of s)) → IfSome o (λ w. StandsBy s n p w)
+last_stands s n p None is = tt
+last_stands s n p (Some w) is =
+    let xs : List Setting = sets_of n (demands_of s) in
+    let both = front_has (is_passed p) w xs (has_at (front (is_passed p) xs) (length (front (is_passed p) xs) - 1) w (sym is)) in
+    (both.0, leb-true w.at p both.1)

@@ -5,8 +5,13 @@ use Rattle.pl_semantics.specs.Legal.{left_after}
 use Rattle.pl_semantics.specs.Moves.{applied}
 use Rattle.pl_bounds.specs.Bounds.{left_beside_states}
 use Rattle.pl_bounds.specs.Marks.{count_of_states}
-use Rattle.pl_bounds.proofs.Pushing.{no_more_at, no_more_next, with_states_too}
+use Rattle.pl_bounds.proofs.Pushing.{no_more_at, no_more_length, no_more_next, with_states_too}
 use Rattle.pl_bounds.proofs.bounds_with_states.with_states.Goals as goal
+
+pub bounds-bounds-place : goal.bounds-bounds-place
+bounds-bounds-place c =
+    let same : length c.args.bounds.now ≡ length c.args.moves.now = no_more_length (left_beside_states c.args.board.now.state) c.args.moves.now c.args.bounds.now c.requires.beside in
+    omega (arith, same, c.loop-place-test.true)
 
 pub loop-place-preserved : goal.loop-place-preserved
 loop-place-preserved c =
