@@ -1,6 +1,6 @@
 -- A must that is not met is not met either once a replacement is made by which the state stays; what a list of demands asks for once they
 -- are moved along; and the last set up to a moment.
-use Rattle.std.proofs.Common.{◌≡◌, ℕ, ◌+◌, ◌-◌, ◌<◌, ◌≤◌, eqb, Bool, true, false, cond, List, [], ◌∷◌, ◌++◌, map, take, length, get_or, refl, sym, ◌∙◌, subst, inl, inr}
+use Rattle.std.proofs.Common.{◌≡◌, ℕ, ◌+◌, ◌-◌, ◌<◌, ◌≤◌, eqb, Bool, true, false, cond, List, [], ◌∷◌, ◌++◌, map, take, length, get_or, refl, sym, ap, ◌∙◌, subst, inl, inr}
 use Rattle.std.specs.Prelude.{◌≢◌, ◌⊎◌, Option, Some, None, IfSome}
 use Rattle.std.specs.List.{flat_map}
 use Rattle.std.proofs.lemmas.Bool.{eq-eqb, leb-true}
@@ -23,16 +23,17 @@ use Rattle.pl_update.specs.Changes.Replaced.{with_plan}
 use Rattle.pl_update.specs.Timelines.Laws.{coming_to, gone_from}
 use Rattle.pl_bounds.specs.Exchanges.{IsExchange}
 use Rattle.pl_bounds.specs.Marks.{mark_of, Stands}
-use Rattle.pl_bounds.specs.Seen.{EachSet}
+use Rattle.pl_bounds.specs.Seen.{EachSet, IsSeen}
 use Rattle.pl_bounds.specs.Settings.{musts_asked, sets_asked}
 use Rattle.pl_bounds.specs.UnmetMusts.{DecidesNot, IsBehindIt, IsLeftBy, StandsBy}
 use Rattle.pl_bounds.specs.declared.unmet_musts.UnmetMust.{UnmetMust}
 use Rattle.pl_bounds.proofs.Governing.{HasBehind}
-use Rattle.pl_bounds.proofs.Having.{each_push, has_at, has_either, has_flat, has_left, has_right}
+use Rattle.pl_bounds.specs.Moved.{asked_moved, demand_moved, moved_to}
+use Rattle.pl_bounds.proofs.Having.{each_push, has_at, has_either, has_flat, has_left, has_map, has_right}
 use Rattle.pl_bounds.proofs.Needed.{must_stands}
-use Rattle.pl_bounds.proofs.States.{must_stays, state_stays_behind}
+use Rattle.pl_bounds.proofs.States.{must_comes, must_stays, state_stays_behind}
 
-module _ (s : PlanState) (whole : IsWhole s) (going coming : List Demand) (u : UnmetMust) (left : IsLeftBy s going u) (comes : EachSet u.seen.line (DecidesNot s u) coming) (gone : List ℕ) (more : List Activity) (exchange : IsExchange s gone more going coming) where
+module _ (s : PlanState) (whole : IsWhole s) (going coming : List Demand) (u : UnmetMust) (goes : EachSet u.seen.line (DecidesNot s u) going) (comes : EachSet u.seen.line (DecidesNot s u) coming) (set : IfSome u.set (λ w. StandsBy s u.seen.line u.seen.at w)) (gone : List ℕ) (more : List Activity) (exchange : IsExchange s gone more going coming) where
   abbrev t : PlanState
   t = with_plan gone more s
 
@@ -49,22 +50,38 @@ module _ (s : PlanState) (whole : IsWhole s) (going coming : List Demand) (u : U
 
   idle : (z : Setting) → (state_at s line z.at ≢ state_at s line u.seen.at) ⊎ IsBehindIt z u.set → IsIdle z
   idle z (inl differs) = inl differs
-  idle z (inr is) = inr (behind z u.set left.unmet.set is)
+  idle z (inr is) = inr (behind z u.set set is)
 
   idle_all : (z : Setting) → Has z (sets_asked line (gone_from s gone)) ⊎ Has z (sets_asked line (coming_to t more)) → z.at ≤ u.seen.at → IsIdle z
-  idle_all z (inl goes) le = idle z (left.decides z (subst (λ (ds : List Demand). Has z (sets_asked line ds)) (sym exchange.goes) goes) le)
+  idle_all z (inl out) le = idle z (goes z (subst (λ (ds : List Demand). Has z (sets_asked line ds)) (sym exchange.goes) out) le)
   idle_all z (inr enters) le = idle z (comes z (subst (λ (ds : List Demand). Has z (sets_asked line ds)) (sym exchange.comes) enters) le)
 
-  pub still_unmet : Stands t (mark_of code.Must u.must.id u.must.index)
-  still_unmet =
+  -- the state stays, so a must that needs another one is unmet
+  pub unmet_there : IsSeen s u.seen → (m : Must) → Has m (musts_asked line (demands_of t)) → m.from ≤ u.seen.at → u.seen.at < m.to → u.seen.state ≢ m.state → Stands t (mark_of code.Must m.id m.index)
+  unmet_there seen m there from to other =
       let stays : state_at t line u.seen.at ≡ state_at s line u.seen.at = state_stays_behind s gone more whole exchange.can exchange.once line u.seen.at idle_all in
-      let other : Has u.must (musts_asked line (gone_from s gone)) → ⊥ = λ has. left.stays line (subst (λ (ds : List Demand). Has u.must (musts_asked line ds)) (sym exchange.goes) has) in
-      let there : Has u.must (musts_asked line (demands_of t)) = must_stays s gone more whole exchange.can exchange.once line u.must other left.unmet.needed in
-      must_stands t line u.must u.seen.at left.unmet.seen.line there left.unmet.from left.unmet.to left.unmet.seen.now left.unmet.seen.horizon (λ e. left.unmet.other (sym left.unmet.seen.is ∙ (sym stays ∙ e)))
+      must_stands t line m u.seen.at seen.line there from to seen.now seen.horizon (λ e. other (sym seen.is ∙ (sym stays ∙ e)))
+
+  -- the same of a must that comes
+  pub comer_unmet : IsSeen s u.seen → (m : Must) → Has m (musts_asked line coming) → m.from ≤ u.seen.at → u.seen.at < m.to → u.seen.state ≢ m.state → Stands t (mark_of code.Must m.id m.index)
+  comer_unmet seen m needed =
+      unmet_there seen m (must_comes s gone more whole exchange.can exchange.once line m (subst (λ (ds : List Demand). Has m (musts_asked line ds)) exchange.comes needed))
+
+module _ (s : PlanState) (whole : IsWhole s) (going coming : List Demand) (u : UnmetMust) (left : IsLeftBy s going u) (comes : EachSet u.seen.line (DecidesNot s u) coming) (gone : List ℕ) (more : List Activity) (exchange : IsExchange s gone more going coming) where
+  pub still_unmet : Stands (with_plan gone more s) (mark_of code.Must u.must.id u.must.index)
+  still_unmet =
+      let other : Has u.must (musts_asked u.seen.line (gone_from s gone)) → ⊥ = λ has. left.stays u.seen.line (subst (λ (ds : List Demand). Has u.must (musts_asked u.seen.line ds)) (sym exchange.goes) has) in
+      let there : Has u.must (musts_asked u.seen.line (demands_of (with_plan gone more s))) = must_stays s gone more whole exchange.can exchange.once u.seen.line u.must other left.unmet.needed in
+      unmet_there s whole going coming u left.decides comes left.unmet.set gone more exchange left.unmet.seen u.must there left.unmet.from left.unmet.to left.unmet.other
 
 -- a must that is asked for is one of its line
 pub must_in_line : (d : Demand) (m : Must) (ds : List Demand) → Has d ds → d.asked ≡ asked.Must m → Has m (musts_asked d.line ds)
 must_in_line d m ds has is = has_flat (asked_of must_in d.line) d m ds has (rw (eq-eqb d.line d.line refl, is) (inl refl))
+
+-- a must that comes is moved along with what comes
+pub must_moved_along : (from to : ℕ) (d : Demand) (m : Must) (ds : List Demand) → Has d ds → d.asked ≡ asked.Must m → Has (record m { from = moved_to from to m.from; to = moved_to from to m.to }) (musts_asked d.line (map (demand_moved from to) ds))
+must_moved_along from to d m ds has is =
+    must_in_line (demand_moved from to d) (record m { from = moved_to from to m.from; to = moved_to from to m.to }) (map (demand_moved from to) ds) (has_map (demand_moved from to) d ds has) (ap (asked_moved from to) is)
 
 -- what a live activity asks for is asked for
 of_activities : (s : PlanState) (d : Demand) (id : ℕ) (xs : List Activity) → Has d (of_found (demands_at s) (activity_of id xs)) → Has d (flat_map (demands_at s) xs)

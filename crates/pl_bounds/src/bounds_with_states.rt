@@ -10,6 +10,7 @@ ghost use Rattle.pl_bounds.specs.Bounds.{AreLeast, AreLeastBesideStates};
 ghost use Rattle.pl_bounds.specs.Marks.{count_of_states};
 ghost use Rattle.pl_bounds.specs.UnmetMusts.{IsExchangeOf, IsUnmet};
 
+use crate::coming_musts::add_coming_musts;
 use crate::exchange::{Exchange, exchange_of};
 use crate::left_unmet::marks_left;
 use crate::marks::count_of_marks;
@@ -46,13 +47,9 @@ fn states_after(
 {
     let _state = board.state();
     let start = start_of(mv);
-    let marks = marks_left(
-        alloc,
-        board,
-        &exchange.asking,
-        start,
-        exchange.left.as_slice(),
-    )?;
+    let asking = &exchange.asking;
+    let mut marks = marks_left(alloc, board, asking, start, exchange.left.as_slice())?;
+    add_coming_musts(board, asking, start, &mut marks)?;
     Ok(count_of_marks(marks.as_slice()))
 }
 

@@ -10,6 +10,7 @@ mod bounds_with_states;
 mod broken_musts;
 mod choices;
 mod choosing;
+mod coming_musts;
 mod crossing;
 mod deciding;
 mod elsewhere;

@@ -25,6 +25,7 @@ returns c =
     let whole : IsWhole s = subst (λ (u : PlanState). IsWhole u) c.state-state.ensures.value (c.state-state.ensures.whole c.requires.unspoiled) in
     let asked : IsAskedBy s (gone_by s m) (placed_by s m) a c.start_of-start.result =
     subst (λ (n : ℕ). IsAskedBy s (gone_by s m) (placed_by s m) a n) (sym c.start_of-start.ensures) (c.requires.exchange.asking m c.requires.allowed c.requires.alike) in
-    let marks : AreMarks t c.in_ok-marks.marks.items = c.in_ok-marks.ensures (gone_by s m) (placed_by s m) (exchange_at s whole c.requires.next m c.requires.activities c.requires.allowed a c.start_of-start.result asked) in
+    let exchange = exchange_at s whole c.requires.next m c.requires.activities c.requires.allowed a c.start_of-start.result asked in
+    let marks : AreMarks t c.add_coming_musts.new.marks.items = c.in_ok-add_coming_musts.ensures c.in_ok-marks.ensures (gone_by s m) (placed_by s m) exchange in
     let seen : AreMarks t c.as_slice-2.result.now = subst (λ (ks : List Mark). AreMarks t ks) (sym c.as_slice-2.ensures.value) marks in
     states_then s whole c.requires.next m c.requires.activities c.requires.allowed c.count_of_marks.result (c.count_of_marks.ensures t seen)
