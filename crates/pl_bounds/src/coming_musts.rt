@@ -18,6 +18,9 @@ use pl_semantics::{Asked, Demand};
 use pl_state::Must;
 use std::alloc::AllocError;
 
+// So many states that stand one after another are looked at for each need.
+const LOOKS: u32 = 6;
+
 // Whether what comes needs a state at this moment if it stands at this start, and the timeline has another state there, which nothing that
 // goes or comes decides.
 fn is_unmet_at(
@@ -62,7 +65,16 @@ fn is_unmet_at(
     are_idle_moved(board, &unmet, way, asking.coming.as_slice())
 }
 
-// The same at the last moment of the need, at the first, or in the middle.
+// The moment right before the last set of a timeline that is at this moment or before it, if there is one.
+fn before_last_set(board: &Board, line: u32, at: u32) -> Option<u32>
+    requires { board.now.spoiled ≡ false }
+{
+    let seen = seen_at(board, line, at)?;
+    let set = board.last_set(seen.line, seen.at)?;
+    set.at.checked_sub(1)
+}
+
+// The same at the last moment of the need, or at the last one at which the state before it stands, and so on back through the need.
 fn is_unmet(board: &Board, asking: &Asking, start: u32, demand: &Demand, must: &Must) -> bool
     requires unspoiled { board.now.spoiled ≡ false }
     requires comes { Has demand.now asking.now.coming.items }
@@ -73,13 +85,22 @@ fn is_unmet(board: &Board, asking: &Asking, start: u32, demand: &Demand, must: &
         from: asking.start,
         to: start,
     };
-    let horizon = board.model().horizon;
-    let from = way.moved(must.from).min(u64::from(horizon)) as u32;
-    let end = way.moved(must.to).min(u64::from(horizon)) as u32;
-    let middle = from.midpoint(end);
-    is_unmet_at(board, asking, start, demand, must, end.saturating_sub(1))
-        || is_unmet_at(board, asking, start, demand, must, from)
-        || is_unmet_at(board, asking, start, demand, must, middle)
+    let from = way.moved(must.from);
+    let end = way.moved(must.to).min(u64::from(board.model().horizon)) as u32;
+    let mut at = end.saturating_sub(1);
+    for _look in 0..LOOKS {
+        if u64::from(at) < from {
+            return false;
+        }
+        if is_unmet_at(board, asking, start, demand, must, at) {
+            return true;
+        }
+        let Some(earlier) = before_last_set(board, demand.line, at) else {
+            return false;
+        };
+        at = earlier;
+    }
+    false
 }
 
 fn mark_must(

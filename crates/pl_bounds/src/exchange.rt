@@ -105,7 +105,7 @@ fn exchange_by(
     }))
 }
 
-/// What is known of an addition, a deletion or a shift, given musts that are not met. If there are none, nothing is worked out.
+/// What is known of an addition, a deletion or a shift, given musts that are not met.
 pub(crate) fn exchange_of(
     alloc: Global,
     board: &Board,
@@ -118,9 +118,6 @@ pub(crate) fn exchange_of(
     requires unmet { All (IsUnmet board.now.state) unmet.now }
     ensures exchange { IfOk result (λ o. IfSome o (λ x. IsExchangeOf board.now.state x)) }
 {
-    if unmet.is_empty() {
-        return Ok(None);
-    }
     match asking_of(alloc, board, first)? {
         Some(asking) => exchange_by(alloc, board, first, asking, unmet),
         None => Ok(None),
