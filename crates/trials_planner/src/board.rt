@@ -20,5 +20,6 @@ mod refusals;
 mod repairs;
 mod rows;
 mod tried;
+mod unmet;
 mod until_and_halt;
 mod values;

@@ -8,7 +8,7 @@ use crate::board::reading::{conflict, repair};
 use crate::board::values::are_conflicts;
 use crate::reading::{sides, word};
 use pl_board::Board;
-use pl_bounds::{least_of_choices, least_of_each};
+use pl_bounds::{least_of_choices, least_of_each, least_with_states};
 use pl_cand::candidates;
 use pl_moves::{Attempt, attempt, is_legal, legal, make};
 use pl_plan::RepairMove;
@@ -92,6 +92,34 @@ pub fn are_known_to_leave(alloc: Global, board: &Board, row: &str) -> Option<boo
     let (lines, wanted) = sides(row);
     match legal_moves(alloc, board, lines) {
         Ok(moves) => leave_at_least(alloc, board, moves.as_slice(), wanted),
+        Err(_) => None,
+    }
+}
+
+// Whether legal moves are known to leave so many conflicts at least, those of states among them.
+fn leave_with_states(
+    alloc: Global,
+    board: &Board,
+    moves: &[RepairMove],
+    wanted: &str,
+) -> Option<bool>
+    requires { All (CanBeMade board.now.state) moves.now }
+{
+    if board.spoiled() || board.next_id() > 3_999_999_000 {
+        return None;
+    }
+    let Ok(bounds) = least_of_each(alloc, board, moves) else {
+        return None;
+    };
+    let found = least_with_states(alloc, board, moves, bounds.as_slice()).ok()?;
+    is_printed(format!(in alloc; "{found:?}"), wanted)
+}
+
+/// The same of the moves of a row.
+pub fn are_known_to_leave_with_states(alloc: Global, board: &Board, row: &str) -> Option<bool> {
+    let (lines, wanted) = sides(row);
+    match legal_moves(alloc, board, lines) {
+        Ok(moves) => leave_with_states(alloc, board, moves.as_slice(), wanted),
         Err(_) => None,
     }
 }

@@ -6,7 +6,8 @@ use crate::board::counted::takes_so_many_steps;
 use crate::board::lookups::{has_partner, is_spread, is_tried_at};
 use crate::board::mending::is_mended;
 use crate::board::moves::{
-    are_known_to_leave, comes_of, is_known_to_leave, is_made, is_refused, is_tried_for,
+    are_known_to_leave, are_known_to_leave_with_states, comes_of, is_known_to_leave, is_made,
+    is_refused, is_tried_for,
 };
 use crate::board::plans::{is_due, is_evaluated, is_in_tree, is_said_of_copy};
 use crate::board::recalling::is_recalled;
@@ -33,6 +34,8 @@ pub enum Asked {
     Least,
     /// Legal moves, and how many conflicts each is known as a choice to leave at least, in a list.
     LeastOfChoices,
+    /// Legal moves that place the same activities, and how many conflicts each is known to leave at least with those of states, in a list.
+    LeastWithStates,
     /// How many conflicts are enough with a legal move, what comes of trying it with the next id then, and all that is wrong then.
     Attempt,
     /// A legal move, and all that is wrong once it is made.
@@ -82,6 +85,7 @@ fn is_so(alloc: Global, board: &mut Board, asked: Asked, rest: &str) -> Option<b
         Asked::Repairs => is_tried_for(alloc, board, rest),
         Asked::Least => is_known_to_leave(alloc, board, rest),
         Asked::LeastOfChoices => are_known_to_leave(alloc, board, rest),
+        Asked::LeastWithStates => are_known_to_leave_with_states(alloc, board, rest),
         Asked::Attempt => comes_of(alloc, board, rest),
         Asked::Made => is_made(alloc, board, rest),
         Asked::Mended => is_mended(alloc, board, rest),
